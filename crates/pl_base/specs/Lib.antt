@@ -1,0 +1,4 @@
+pub mod formers
+pub mod Outside
+pub mod Kept
+pub mod Shown
