@@ -1,6 +1,6 @@
 // Hosts in memory.
 ghost use Rattle.std.specs.Prelude.{◌≡◌, Some, None, MatchOption, [], ◌+◌};
-ghost use Rattle.pl_base.specs.Outside.{file_in};
+ghost use Rattle.pl_base.specs.Outside.{file_in, Counts};
 ghost use Rattle.pl_base.specs.Kept.{told};
 
 use crate::outside::{Host, HostError, HostFailed, TakeError};
@@ -51,13 +51,37 @@ impl MemoryHost {
         self.store.out()
     }
 
-    // Whether this call is to fail. It is counted.
-    fn fails_now(&mut self) -> bool
+    // Whether the next call is to fail.
+    fn next_fails(&mut self) -> bool
         ensures { (self.new.store ≡ self.old.store) × (self.new.in_faults ≡ self.old.in_faults) × (self.new.out_faults ≡ self.old.out_faults) }
     {
         let number = self.calls;
         self.calls = number.saturating_add(1);
         self.fails.contains(&number)
+    }
+
+    // Whether this take or read is to fail; its fault is counted then.
+    fn fails_in(&mut self) -> bool
+        ensures counts { Counts result self.old.in_faults self.new.in_faults }
+        ensures same { (self.new.store ≡ self.old.store) × (self.new.out_faults ≡ self.old.out_faults) }
+    {
+        let fails = self.next_fails();
+        if fails {
+            self.in_faults = self.in_faults.saturating_add(1);
+        }
+        fails
+    }
+
+    // Whether this put or write is to fail; its fault is counted then.
+    fn fails_out(&mut self) -> bool
+        ensures counts { Counts result self.old.out_faults self.new.out_faults }
+        ensures same { (self.new.store ≡ self.old.store) × (self.new.in_faults ≡ self.old.in_faults) }
+    {
+        let fails = self.next_fails();
+        if fails {
+            self.out_faults = self.out_faults.saturating_add(1);
+        }
+        fails
     }
 }
 
@@ -75,8 +99,7 @@ impl Host for MemoryHost {
     ghost out_faults = { λ h. h.out_faults };
 
     fn take(&mut self, name: &str, most: u64) -> Result<Vec<u8>, TakeError> {
-        if self.fails_now() {
-            self.in_faults = self.in_faults.saturating_add(1);
+        if self.fails_in() {
             return Err(TakeError::Failed);
         }
         match self.store.fetch(name, most) {
@@ -91,8 +114,7 @@ impl Host for MemoryHost {
     }
 
     fn put(&mut self, name: &str, bytes: &[u8]) -> Result<(), HostError> {
-        if self.fails_now() {
-            self.out_faults = self.out_faults.saturating_add(1);
+        if self.fails_out() {
             return Err(HostError::Failed);
         }
         match self.store.replace(name, bytes) {
@@ -102,16 +124,14 @@ impl Host for MemoryHost {
     }
 
     fn read_in(&mut self, buf: &mut [u8]) -> Result<usize, HostFailed> {
-        if self.fails_now() {
-            self.in_faults = self.in_faults.saturating_add(1);
+        if self.fails_in() {
             return Err(HostFailed);
         }
         Ok(self.store.read(buf))
     }
 
     fn write_out(&mut self, bytes: &[u8]) -> Result<usize, HostError> {
-        if self.fails_now() {
-            self.out_faults = self.out_faults.saturating_add(1);
+        if self.fails_out() {
             return Err(HostError::Failed);
         }
         match self.store.write(bytes) {
