@@ -2,3 +2,4 @@ pub mod formers
 pub mod Outside
 pub mod Kept
 pub mod Shown
+pub mod Permission

@@ -1,0 +1,6 @@
+pub mod Tree
+pub mod Plain
+pub mod Sorts
+pub mod Values
+pub mod Resource
+pub mod Holds

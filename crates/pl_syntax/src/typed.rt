@@ -1,0 +1,41 @@
+ghost use Rattle.std.specs.Prelude.{◌≡◌};
+ghost use Rattle.pl_syntax.specs.Plain.{plain_program};
+ghost use Rattle.pl_syntax.specs.Sorts.{IsTyped};
+
+use crate::program::Program;
+use std::marker::Model;
+
+/// A program that keeps the sort rules.
+#[derive(Drop)]
+pub struct Typed {
+    program: Program,
+}
+
+impl Model for Typed {
+    ghost use Rattle.pl_syntax.specs.declared.program.Program.{Program};
+    ghost use Rattle.pl_syntax.specs.Plain.{plain_program};
+    ghost use Rattle.pl_syntax.specs.Sorts.{IsTyped};
+
+    ghost Value = { Program };
+
+    ghost view = { λ t. t.program };
+
+    ghost invariant = { λ t. IsTyped (plain_program t.program) };
+}
+
+impl Typed {
+    /// Keeps the fact that the program is typed. It takes no memory.
+    pub fn seal(program: Program) -> Typed
+        requires { IsTyped (plain_program program) }
+        ensures { result ≡ program }
+    {
+        Typed { program }
+    }
+
+    pub fn program(&self) -> &Program
+        ensures same { result.now ≡ self.now }
+        ensures typed { IsTyped (plain_program self.now) }
+    {
+        &self.program
+    }
+}

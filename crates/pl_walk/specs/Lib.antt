@@ -1,0 +1,5 @@
+pub mod Terms
+pub mod Rules
+pub mod Walk
+pub mod Machine
+pub mod Good

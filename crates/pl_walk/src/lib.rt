@@ -1,0 +1,8 @@
+//! The checker's walk over a function, and what its acceptance means.
+#![tactic(auto)]
+
+mod known;
+mod walk;
+
+pub use known::Term;
+pub use walk::{Duty, WalkError};
