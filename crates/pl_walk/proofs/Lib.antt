@@ -1,0 +1,4 @@
+pub mod BlockLaws
+pub mod NameLaws
+pub mod Reaching
+pub mod TextLaws

@@ -3,3 +3,8 @@ pub mod Rules
 pub mod Walk
 pub mod Machine
 pub mod Good
+pub mod Blocks
+pub mod Shown
+pub mod Ready
+pub mod Texts
+pub mod Says

@@ -2,6 +2,7 @@
 #![tactic(auto)]
 
 mod known;
+mod text;
 mod walk;
 
 pub use known::Term;
