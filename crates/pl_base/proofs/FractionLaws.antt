@@ -153,10 +153,11 @@ half_adds p r h whole part = record { cross = num_half p.0 p.1 r.0 r.1 (omega (a
 pub sum_adds : (p q r : ℕ × ℕ) → IsSum p q r → (one : IsPart p.0 p.1) (two : IsPart q.0 q.1) (both : IsPart r.0 r.1) → PermissionAdds (permission_of p one) (permission_of q two) (permission_of r both)
 sum_adds p q r h one two both = record { cross = sym h.same }
 
-pub halves : (p : ℕ × ℕ) (n d : ℕ) (result : Result (ℕ × ℕ) TooFine) → n ≡ p.0 → d ≡ p.1 → MatchResult result (IsReduced n (2 * d)) (λ e. IsTooFine n (2 * d) e.den)
+-- two of what `half` answers make p
+pub halves : (p : ℕ × ℕ) (result : Result (ℕ × ℕ) TooFine) → MatchResult result (IsHalf p) (λ e. IsTooFine p.0 (2 * p.1) e.den)
     → IfOk result (λ r. (whole : IsPart p.0 p.1) → (part : IsPart r.0 r.1) → PermissionAdds (permission_of r part) (permission_of r part) (permission_of p whole))
-halves p n d (Ok r) en ed h = λ whole part. half_adds p r (subst₂ (λ u v. IsReduced u (2 * v) r) en ed h) whole part
-halves p n d (Err e) en ed h = tt
+halves p (Ok r) h = λ whole part. half_adds p r h whole part
+halves p (Err e) h = tt
 
 pub is_fraction : {n d : ℕ} {p : ℕ × ℕ} → (n, d) ≡ p → IsFraction n d → IsFraction p.0 p.1
 is_fraction e f = subst (λ (v : ℕ × ℕ). IsFraction v.0 v.1) e f

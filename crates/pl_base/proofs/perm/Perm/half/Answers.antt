@@ -3,4 +3,4 @@ use Rattle.pl_base.proofs.FractionLaws.{halves}
 use Rattle.pl_base.proofs.perm.Perm.half.Goals as goal
 
 pub returns-clause-adds : goal.returns-clause-adds
-returns-clause-adds c = halves c.args.self c.from.result c.from-2.result c.reduced.result (search rules) (search rules) c.reduced.ensures.exact
+returns-clause-adds c = halves c.args.self c.reduced.result (search rules)
