@@ -3,3 +3,5 @@ pub mod Outside
 pub mod Kept
 pub mod Shown
 pub mod Permission
+pub mod Fraction
+pub mod Mangling

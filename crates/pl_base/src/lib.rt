@@ -5,6 +5,7 @@ mod items;
 mod memory_host;
 mod name;
 mod outside;
+mod perm;
 mod pos;
 mod store;
 
@@ -12,6 +13,7 @@ pub use items::Items;
 pub use memory_host::{MemoryHost, SteadyHost};
 pub use name::Name;
 pub use outside::{Gate, Host, HostError, HostFailed, NullGate, TakeError};
+pub use perm::{Perm, SumError, TooFine};
 pub use pos::{Memory, Pos};
 pub use store::HostFile;
 

@@ -1,4 +1,5 @@
 use super::*;
+use std::cmp::Ordering;
 use std::process::Abort;
 use std::test::*;
 
@@ -50,4 +51,54 @@ fn a_steady_host_gives_its_input(rt: HostRuntime) -> Result<(), Fail> {
     assert_eq!(rt; host.out(), b"xyz".as_slice());
     assert_eq!(rt; host.take("f", 4), Err(TakeError::Failed));
     Ok(())
+}
+
+#[test]
+fn a_name_is_mangled(rt: HostRuntime) -> Result<(), Fail> {
+    let alloc = rt.alloc();
+    for (text, want) in [
+        ("α", "_u0003b1"),
+        ("a_1", "a__1"),
+        ("_", "__"),
+        ("Z9", "Z9"),
+        ("😀", "_u01f600"),
+    ] {
+        let name = Name::of(alloc, text)?;
+        assert_eq!(rt;
+            name.mangled(alloc)?.as_slice(),
+            want.as_bytes(),
+            "at {text}"
+        );
+    }
+    Ok(())
+}
+
+fn shown(answer: Result<Perm, SumError>) -> Result<(u32, u32), SumError> {
+    let sum = answer?;
+    Ok((sum.num(), sum.den()))
+}
+
+#[test]
+fn permissions_are_split_and_joined(rt: HostRuntime) {
+    assert!(rt; Perm::new(0, 1).is_none());
+    assert!(rt; Perm::new(3, 2).is_none());
+    assert!(rt; Perm::new(1, 1_048_577).is_none());
+    let half = Perm::new(1, 2).expect(&rt, "a permission");
+    let thirds = Perm::new(4, 6).expect(&rt, "a permission");
+    let finest = Perm::new(1, 1_048_576).expect(&rt, "a permission");
+    assert_eq!(rt; (thirds.num(), thirds.den()), (2, 3));
+    assert_eq!(rt; finest.half().err(), Some(TooFine { den: 2_097_152 }));
+    let third = thirds.half().ok().expect(&rt, "a permission");
+    assert_eq!(rt; (third.num(), third.den()), (1, 3));
+    assert_eq!(rt; shown(half.plus(half)), Ok((1, 1)));
+    assert_eq!(rt; shown(third.plus(half)), Ok((5, 6)));
+    assert_eq!(rt; shown(thirds.plus(half)), Err(SumError::Over));
+    assert_eq!(rt;
+        shown(finest.plus(third)),
+        Err(SumError::TooFine(3_145_728))
+    );
+    assert_eq!(rt; thirds.compare(half), Ordering::Greater);
+    assert_eq!(rt; third.compare(half), Ordering::Less);
+    assert_eq!(rt; half.compare(half), Ordering::Equal);
+    crosses(&half);
 }
