@@ -1,2 +1,7 @@
 pub mod Spelling
 pub mod Grammar
+pub mod Words
+pub mod Telling
+pub mod Lines
+pub mod Judging
+pub mod Calls

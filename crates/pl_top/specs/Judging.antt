@@ -1,0 +1,42 @@
+-- What is answered to `check`, where nothing outside fails and memory is enough.
+use Rattle.std.specs.Prelude.{◌≡◌, ◌⊎◌, ◌≤◌, ℕ, List, [], ◌∷◌, length}
+use Rattle.pl_base.specs.declared.pos.Pos.{Pos}
+use Rattle.pl_syntax.specs.Tree.{Fun, Function, Program}
+use Rattle.pl_walk.specs.declared.walk.Duty.{Duty}
+use Rattle.pl_walk.specs.Walk.{Undone, AllDone}
+use Rattle.pl_walk.specs.Good.{Good}
+use Rattle.pl_top.specs.Grammar.{IsFile}
+use Rattle.pl_top.specs.Telling.{Given, whole, long}
+use Rattle.pl_top.specs.Lines.{accepted, not_built, limit_file, duty_line}
+
+-- the bytes are a file of the small grammar, with this function
+abbrev pub IsFileOf : List ℕ → Fun → Type 0
+IsFileOf bytes main = IsFile bytes (record { decls = Function main ∷ [] })
+
+-- no duty of the file is left undone, and then the program is good: no run of it faults or races
+pub record IsAccepted (bytes : List ℕ) : Type 0 where
+  pub main : Fun
+  pub file : IsFileOf bytes main
+  pub done : AllDone main
+  pub good : Good main
+
+-- this duty of the file is the first that is left undone
+pub record IsUndone (bytes : List ℕ) (place : Pos) (duty : Duty) : Type 0 where
+  pub main : Fun
+  pub file : IsFileOf bytes main
+  pub undone : Undone main place duty
+
+-- the bytes are no file of the small grammar
+pub record IsNotBuilt (bytes : List ℕ) : Type 0 where
+  pub none : (program : Program) → IsFile bytes program → ⊥
+
+-- the status and the line for the bytes of a file
+pub data JudgesBytes (bytes : List ℕ) : ℕ → List ℕ → Type 0 where
+  is_accepted : IsAccepted bytes → JudgesBytes bytes 0 accepted
+  is_undone : (place : Pos) (duty : Duty) → IsUndone bytes place duty → JudgesBytes bytes 1 (duty_line place duty)
+  is_not_built : IsNotBuilt bytes → JudgesBytes bytes 3 not_built
+
+-- the status and the line for what a file gave
+abbrev pub Judges : Given → ℕ → List ℕ → Type 0
+Judges (whole bytes) status text = JudgesBytes bytes status text
+Judges long status text = (status ≡ 10) × (text ≡ limit_file)

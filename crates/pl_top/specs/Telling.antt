@@ -1,0 +1,46 @@
+-- What a call of the program took and wrote, and the causes of its statuses.
+use Rattle.std.specs.Prelude.{◌≡◌, ℕ, ◌<◌, ◌≤◌, List, length, take, Bool, true, false, Some, None, Ok, Err, Option, Result}
+use Rattle.std.specs.Io.KnownBytes.{Appends}
+use Rattle.pl_base.specs.Outside.{Files, HasFile, HasLonger, Rose}
+use Rattle.pl_top.specs.declared.fetch.Fetched.{Fetched}
+use Rattle.pl_top.specs.declared.fetch.Fetched.TheVariants.{Bytes, TooLong}
+use Rattle.pl_top.specs.declared.fetch.Fault.{Fault}
+use Rattle.pl_top.specs.declared.fetch.Fault.TheVariants as fault
+
+-- the bytes of a file, or that it has more than may be
+pub data Given : Type 0 where
+  whole : (bytes : List ℕ) → Given
+  long : Given
+
+abbrev pub given_by : Fetched → Given
+given_by (Bytes v) = whole v.items
+given_by TooLong = long
+
+-- the file of that name gives this; where the files aren't told, its bytes are some bytes
+abbrev pub Takes : Option Files → List ℕ → ℕ → Given → Type 0
+Takes files name most (whole bytes) = HasFile files name bytes × (length bytes ≤ most)
+Takes files name most long = HasLonger files name most
+
+-- a beginning of the text was written
+abbrev pub AppendsPart : Option (List ℕ) → Option (List ℕ) → List ℕ → Type 0
+AppendsPart old new text = (n : ℕ) × Appends old new (take n text)
+
+-- whether a take or read failed, or a put or write
+abbrev pub is_in : {T : Type 0} → Result T Fault → Bool
+is_in (Ok x) = false
+is_in (Err fault.In) = true
+is_in (Err fault.Out) = false
+is_in (Err fault.Memory) = false
+
+abbrev pub is_out : {T : Type 0} → Result T Fault → Bool
+is_out (Ok x) = false
+is_out (Err fault.In) = false
+is_out (Err fault.Out) = true
+is_out (Err fault.Memory) = false
+
+-- status 4 comes only where the host's faults of input rose, and wherever that count grew; 5 likewise for output
+pub record HasCauses (status in_before in_now out_before out_now : ℕ) : Type 0 where
+  pub four : status ≡ 4 → Rose in_before in_now
+  pub four_always : in_before < in_now → status ≡ 4
+  pub five : status ≡ 5 → Rose out_before out_now
+  pub five_always : out_before < out_now → status ≡ 5
