@@ -1,9 +1,8 @@
 -- What the rounds come to.
-use Rattle.std.proofs.Common.{◌≡◌, ◌≢◌, ℕ, zero, suc, ◌<◌, ◌≤◌, ◌+◌, ◌*◌, ◌^◌, inl, inr, ℤ, pos, ◌+ℤ◌, ◌-ℤ◌, ◌≤ℤ◌, ◌<ℤ◌, List, [], ◌∷◌, reverse, length, map, get_or, replicate, unsigned_abs, sum_by, Option, Some, None, All, Contains, refl, ap, sym, subst, ◌∙◌, arith, mul-le-mul}
+use Rattle.std.proofs.Common.{◌≡◌, ◌≢◌, ℕ, zero, suc, ◌<◌, ◌≤◌, ◌+◌, ◌*◌, ◌^◌, inl, inr, ℤ, pos, ◌+ℤ◌, ◌-ℤ◌, ◌≤ℤ◌, ◌<ℤ◌, List, [], ◌∷◌, reverse, length, map, get_or, replicate, unsigned_abs, Option, Some, None, All, Contains, refl, ap, sym, subst, ◌∙◌, arith, mul-le-mul}
 use Rattle.std.proofs.lemmas.Int.{ints, by_lt_z}
 use Rattle.std.proofs.lemmas.List.{length-reverse, get_or-replicate, length-replicate}
 use Rattle.std.proofs.lemmas.List.Elements.{All-from_get_or}
-use Rattle.std.proofs.lemmas.List.Sums.{sum_by-cons}
 use Rattle.std.proofs.lemmas.Bool.{cases_lt}
 use Rattle.pl_diffs.specs.declared.Edge.{Edge}
 use Rattle.pl_diffs.specs.Differences.{at, total, Path, Meets, NoneMeets, IsNegativeCycle, IsGreatest, AreDistances}
@@ -24,7 +23,7 @@ short_zero es n (i ∷ p) h k s b = absurd (omega arith)
 no_parents : (es : List Edge) (n k : ℕ) → k < n → Parent es (replicate n (pos 0)) (λ q. 0) k (parent_of (replicate n None) k)
 no_parents es n k hk = let none : Option ℕ = None in rw (get_or-replicate n k none none hk) (at_zeros n k)
 
-pub rounds_start : (es : List Edge) (n : ℕ) → Rounds es n (replicate n (pos 0)) (replicate n None)
+pub rounds_start : (es : List Edge) (n : ℕ) → Rounds es n (replicate n (pos 0)) (replicate n None) 0
 rounds_start es n = record {
   ranked = record {
     count = length-replicate n (pos 0);
@@ -36,8 +35,6 @@ rounds_start es n = record {
     earlier = λ k hk. omega arith;
     parent = no_parents es n;
   };
-  round = 0;
-  few = omega arith;
   low = λ k. omega (arith, ints, at_zeros n k);
   short = λ p k s h hs b. short_zero es n p h k s b;
 }
@@ -55,34 +52,32 @@ rooted_zero : (es : List Edge) (n : ℕ) (d : List ℤ) (ps : List (Option ℕ))
 rooted_zero es n d ps r k hk e = rw e at (r.parent k hk)
 
 -- a walk back to a node without a parent is longer than the count of rounds
-rooted_long : (es : List Edge) (n : ℕ) (d0 d : List ℤ) (ps0 ps : List (Option ℕ)) (t : ℕ) (b : Rounds es n d0 ps0) → Ends es n → Round es n d0 d ps (length es) (Some t) → Rooted es ps t → b.round + 1 ≤ n
-rooted_long es n d0 d ps0 ps t b ends r w =
+pub rooted_long : (es : List Edge) (n : ℕ) (d0 d : List ℤ) (ps0 ps : List (Option ℕ)) (round t : ℕ) → Rounds es n d0 ps0 round → Ends es n → Round es n d0 d ps (length es) (Some t) → Rooted es ps t → round + 1 < n
+rooted_long es n d0 d ps0 ps round t b ends r w =
     let fell = r.fell t refl in
     let lt = fell.1 in
     let hn = r.ranked.parents in
     let zero_ = rooted_zero es n d ps r.ranked w.root (omega (arith, w.within)) w.is in
     let sum = (chain_falls es n d ps r.ranked ends w.path t w.root fell.0 w.chain).0 in
     let back = chain_back es n d ps r.ranked ends w.path t w.root fell.0 w.chain in
-    elim (cases_lt b.round (length w.path)) [
+    elim (cases_lt round (length w.path)) [
       | inl long ↦ omega (arith, w.short)
       | inr short ↦ absurd (omega (arith, ints, b.short w.path t w.root short (omega (arith, w.within)) back))
     ]
 
-pub rounds_more : (es : List Edge) (n : ℕ) (d0 d : List ℤ) (ps0 ps : List (Option ℕ)) (t : ℕ) → Rounds es n d0 ps0 → Ends es n → Round es n d0 d ps (length es) (Some t) → Rooted es ps t → Rounds es n d ps
-rounds_more es n d0 d ps0 ps t b ends r w = record {
+pub rounds_more : (es : List Edge) (n : ℕ) (d0 d : List ℤ) (ps0 ps : List (Option ℕ)) (round : ℕ) (last : Option ℕ) → Rounds es n d0 ps0 round → Round es n d0 d ps (length es) last → Rounds es n d ps (round + 1)
+rounds_more es n d0 d ps0 ps round last b r = record {
   ranked = r.ranked;
-  round = b.round + 1;
-  few = rooted_long es n d0 d ps0 ps t b ends r w;
-  low = let P : ℕ → Type 0 = λ m. Low m d in let e : b.round * length es + length es ≡ (b.round + 1) * length es = omega arith in subst P e (r.low (b.round * length es) b.low);
-  short = short_more es n d0 d ps (Some t) b.round b.short r;
+  low = let P : ℕ → Type 0 = λ m. Low m d in let e : round * length es + length es ≡ (round + 1) * length es = omega arith in subst P e (r.low (round * length es) b.low);
+  short = short_more es n d0 d ps last round b.short r;
 }
 
-pub low_now : {es : List Edge} {n : ℕ} {d : List ℤ} {ps : List (Option ℕ)} → Rounds es n d ps → Ends es n → Low (2 ^ 24) d
-low_now {es} {n} {d} {ps} b ends = λ k.
+pub low_now : (es : List Edge) (n : ℕ) (d : List ℤ) (ps : List (Option ℕ)) (round : ℕ) → Rounds es n d ps round → Ends es n → round ≤ 2 * n → Low (2 ^ 25) d
+low_now es n d ps round b ends few_rounds = λ k.
     let few = ends.few in
     let small = ends.small in
-    let r : b.round ≤ 4096 = omega (arith, b.few) in
-    let m : b.round * length es ≤ 4096 * 4096 = mul-le-mul r few in
+    let r : round ≤ 8192 = omega arith in
+    let m : round * length es ≤ 8192 * 4096 = mul-le-mul r few in
     omega (arith, ints, b.low k)
 
 negative_sum : (a x : ℤ) (r m : ℕ) → (a +ℤ x) ≤ℤ a → (a +ℤ x ≡ a → r + m ≤ r) → 0 < m → x <ℤ pos 0
@@ -118,7 +113,7 @@ closed_cycle es n d ps c r ends w =
 size_below : (x : ℤ) (m : ℕ) → x ≤ℤ pos 0 → pos 0 ≤ℤ (x +ℤ pos m) → unsigned_abs x ≤ m
 size_below x m h l = grind (arith, ints)
 
-pub least : (es : List Edge) (n : ℕ) (d0 d : List ℤ) (ps : List (Option ℕ)) → Ends es n → Low (2 ^ 24) d0 → Round es n d0 d ps (length es) None → IsLeast es n d
+pub least : (es : List Edge) (n : ℕ) (d0 d : List ℤ) (ps : List (Option ℕ)) → Ends es n → Low (2 ^ 25) d0 → Round es n d0 d ps (length es) None → IsLeast es n d
 least es n d0 d ps ends l r =
     let same : d ≡ d0 = r.same refl in
     let zero_edge : Edge = record { from = 0; to = 0; most = pos 0 } in
@@ -133,39 +128,5 @@ least es n d0 d ps ends l r =
           let along = along_path es (reverse a.path) a.first k (along_reverse es a.path k a.first a.leads) in
           omega (arith, ints, path_bound (Contains es) u (meets_edge es u m) (map (edge es) (reverse a.path)) a.first k along, h a.first a.within, weight-reverse es a.path, a.sum);
       };
-      bounded = All-from_get_or (λ x. unsigned_abs x ≤ 2 ^ 105) d (pos 0) (λ k hk. size_below (at d k) (2 ^ 105) (r.ranked.highest k) (omega (arith, ints, l k, ap (λ e. at e k) same)));
+      bounded = All-from_get_or (λ x. unsigned_abs x ≤ 2 ^ 106) d (pos 0) (λ k hk. size_below (at d k) (2 ^ 106) (r.ranked.highest k) (omega (arith, ints, l k, ap (λ e. at e k) same)));
     }
-
--- how far the distances are above the lowest that they may be
-abbrev pub room : ℤ → ℕ
-room x = unsigned_abs (x +ℤ pos (2 ^ 24 * 2 ^ 81))
-
-room_falls : (x y : ℤ) → y ≤ℤ x → pos 0 ≤ℤ (y +ℤ pos (2 ^ 24 * 2 ^ 81)) → room y ≤ room x
-room_falls x y h l = grind (arith, ints)
-
-room_falls_more : (x y : ℤ) → y <ℤ x → pos 0 ≤ℤ (y +ℤ pos (2 ^ 24 * 2 ^ 81)) → room y < room x
-room_falls_more x y h l = grind (arith, ints)
-
-sum_falls : (f : ℤ → ℕ) (xs ys : List ℤ) → length ys ≡ length xs → ((k : ℕ) → f (at ys k) ≤ f (at xs k)) → sum_by f ys ≤ sum_by f xs
-sum_falls f [] [] e h = omega arith
-sum_falls f [] (y ∷ ys) e h = absurd (omega arith)
-sum_falls f (x ∷ xs) [] e h = absurd (omega arith)
-sum_falls f (x ∷ xs) (y ∷ ys) e h =
-    let rest = sum_falls f xs ys (omega arith) (λ k. h (suc k)) in
-    omega (arith, sum_by-cons f x xs, sum_by-cons f y ys, h 0)
-
-sum_falls_at : (f : ℤ → ℕ) (xs ys : List ℤ) (t : ℕ) → length ys ≡ length xs → t < length xs → ((k : ℕ) → f (at ys k) ≤ f (at xs k)) → f (at ys t) < f (at xs t) → sum_by f ys < sum_by f xs
-sum_falls_at f [] ys t e ht h lt = absurd (omega arith)
-sum_falls_at f (x ∷ xs) [] t e ht h lt = absurd (omega arith)
-sum_falls_at f (x ∷ xs) (y ∷ ys) zero e ht h lt =
-    let rest = sum_falls f xs ys (omega arith) (λ k. h (suc k)) in
-    omega (arith, sum_by-cons f x xs, sum_by-cons f y ys)
-sum_falls_at f (x ∷ xs) (y ∷ ys) (suc t) e ht h lt =
-    let rest = sum_falls_at f xs ys t (omega arith) (omega arith) (λ k. h (suc k)) lt in
-    omega (arith, sum_by-cons f x xs, sum_by-cons f y ys, h 0)
-
--- a round in which a distance falls leaves less room
-pub round_falls : (es : List Edge) (n : ℕ) (d0 d : List ℤ) (ps : List (Option ℕ)) (t : ℕ) → length d0 ≡ n → Low (2 ^ 24) d → Round es n d0 d ps (length es) (Some t) → sum_by room d < sum_by room d0
-round_falls es n d0 d ps t len l r =
-    let fell = r.fell t refl in
-    sum_falls_at room d0 d t (r.ranked.count ∙ sym len) (omega (arith, fell.0)) (λ k. room_falls (at d0 k) (at d k) (r.falls k) (l k)) (room_falls_more (at d0 t) (at d t) fell.1 (l t))

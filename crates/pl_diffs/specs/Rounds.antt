@@ -72,11 +72,9 @@ pub record Round (es : List Edge) (n : ℕ) (first d : List ℤ) (ps : List (Opt
   pub same : last ≡ None → d ≡ first
   pub fell : (t : ℕ) → last ≡ Some t → (t < n) × (at d t <ℤ at first t)
 
--- after some rounds: no path of at most so many edges is shorter
-pub record Rounds (es : List Edge) (n : ℕ) (d : List ℤ) (ps : List (Option ℕ)) : Type 0 where
+-- after so many rounds: no path of at most so many edges is shorter
+pub record Rounds (es : List Edge) (n : ℕ) (d : List ℤ) (ps : List (Option ℕ)) (round : ℕ) : Type 0 where
   pub ranked : Ranked es n d ps
-  pub round : ℕ
-  pub few : round ≤ n
   pub low : Low (round * length es) d
   pub short : (p : List ℕ) (k s : ℕ) → length p ≤ round → s < n → Back es p k s → at d k ≤ℤ weight es p
 
@@ -86,7 +84,7 @@ pub record IsLeast (es : List Edge) (n : ℕ) (d : List ℤ) : Type 0 where
   pub meets : Meets es (at d)
   pub at_most_zero : All (λ x. x ≤ℤ pos 0) d
   pub greatest : IsGreatest es n d
-  pub bounded : All (λ x. unsigned_abs x ≤ 2 ^ 105) d
+  pub bounded : All (λ x. unsigned_abs x ≤ 2 ^ 106) d
 
 -- the edges at these places close a cycle, so no numbers meet all edges
 pub record IsFound (es : List Edge) (n : ℕ) (places : List ℕ) : Type 0 where

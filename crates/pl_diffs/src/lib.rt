@@ -48,7 +48,7 @@ pub fn solve(alloc: Global, nodes: u32, edges: &[Edge]) -> Result<Solved, Memory
     ensures meets { IfOk result (λ s. IfPotentials s (λ d. Meets edges.now (at d))) }
     ensures at_most_zero { IfOk result (λ s. IfPotentials s (All (λ x. x ≤ℤ pos 0))) }
     ensures greatest { IfOk result (λ s. IfPotentials s (IsGreatest edges.now nodes)) }
-    ensures bounded { IfOk result (λ s. IfPotentials s (All (λ x. unsigned_abs x ≤ 2 ^ 105))) }
+    ensures bounded { IfOk result (λ s. IfPotentials s (All (λ x. unsigned_abs x ≤ 2 ^ 106))) }
 {
     let mut dist = vec![in alloc; 0; nodes as usize]?;
     let mut parent = vec![in alloc; None; nodes as usize]?;

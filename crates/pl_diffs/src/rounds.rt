@@ -14,7 +14,7 @@ fn shorter(dist: &[i128], e: Edge) -> Option<i128>
     requires to { e.to < length dist.now }
     requires size { unsigned_abs e.most ≤ 2 ^ 81 }
     requires high { at dist.now e.from ≤ℤ pos 0 }
-    requires low { pos 0 ≤ℤ (at dist.now e.from +ℤ pos (2 ^ 25 * 2 ^ 81)) }
+    requires low { pos 0 ≤ℤ (at dist.now e.from +ℤ pos (2 ^ 26 * 2 ^ 81)) }
     ensures { Shorter result (at dist.now e.from +ℤ e.most) (at dist.now e.to) }
 {
     let next = dist[e.from as usize] + e.most;
@@ -32,7 +32,7 @@ fn relax(edges: &[Edge], dist: &mut [i128], parent: &mut [Option<u32>]) -> Optio
     requires tos { All (λ e. e.to < length dist.old) edges.now }
     requires sizes { All (λ e. unsigned_abs e.most ≤ 2 ^ 81) edges.now }
     requires ranked { Ranked edges.now (length dist.old) dist.old parent.old }
-    requires low { Low (2 ^ 24) dist.old }
+    requires low { Low (2 ^ 25) dist.old }
     requires lengths { length parent.old ≡ length dist.old }
     ensures { Round edges.now (length dist.old) dist.old dist.new parent.new (length edges.now) result }
 {
@@ -48,6 +48,7 @@ fn relax(edges: &[Edge], dist: &mut [i128], parent: &mut [Option<u32>]) -> Optio
 }
 
 // Takes rounds until one changes nothing, or a walk back along the parents finds a cycle.
+// It walks after round 1, 2, 4 and so on: a cycle is found at most twice as late, and the walks cost next to nothing.
 pub fn settle(
     alloc: Global,
     edges: &[Edge],
@@ -58,12 +59,18 @@ pub fn settle(
     requires froms { All (λ e. e.from < length dist.old) edges.now }
     requires tos { All (λ e. e.to < length dist.old) edges.now }
     requires sizes { All (λ e. unsigned_abs e.most ≤ 2 ^ 81) edges.now }
-    requires start { Rounds edges.now (length dist.old) dist.old parent.old }
+    requires start { Rounds edges.now (length dist.old) dist.old parent.old 0 }
     ensures { IfOk result (λ o. Settled edges.now (length dist.old) dist.new o) }
 {
+    let mut round: u32 = 0;
+    let mut walk_at: u32 = 1;
     while let Some(last) = relax(edges, dist, parent) {
-        if let Some(cycle) = cycle_from(alloc, edges, parent, last)? {
-            return Ok(Some(cycle));
+        round += 1;
+        if round == walk_at {
+            if let Some(cycle) = cycle_from(alloc, edges, parent, last)? {
+                return Ok(Some(cycle));
+            }
+            walk_at *= 2;
         }
     }
     Ok(None)

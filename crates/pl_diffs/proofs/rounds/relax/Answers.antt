@@ -10,7 +10,7 @@ use Rattle.pl_diffs.proofs.rounds.relax.Goals.{in-Some, in_default}
 pub shorter-requires-clause-low : goal.shorter-requires-clause-low
 shorter-requires-clause-low c =
     let few = c.requires.ends.few in
-    let low = c.loop-i.invariant.low (2 ^ 24) c.requires.low (edge c.args.edges.now c.loop-i.i).from in
+    let low = c.loop-i.invariant.low (2 ^ 25) c.requires.low (edge c.args.edges.now c.loop-i.i).from in
     omega (arith, ints)
 
 pub loop-i-preserved : goal.loop-i-preserved
