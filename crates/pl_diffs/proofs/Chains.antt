@@ -1,9 +1,9 @@
 -- Chains of parents, and the paths that they make.
-use Rattle.std.proofs.Common.{◌≡◌, ℕ, ◌<◌, ◌≤◌, ◌+◌, ℤ, ◌+ℤ◌, ◌≤ℤ◌, List, [], ◌∷◌, ◌++◌, reverse, length, get_or, Option, Some, refl, ap, sym, ◌∙◌, arith}
+use Rattle.std.proofs.Common.{◌≡◌, ℕ, ◌<◌, ◌≤◌, ◌+◌, ℤ, ◌+ℤ◌, ◌≤ℤ◌, List, [], ◌∷◌, ◌++◌, length, Option, Some, refl, ap, ◌∙◌, arith}
 use Rattle.std.proofs.lemmas.Int.{ints}
 use Rattle.pl_diffs.specs.declared.Edge.{Edge}
 use Rattle.pl_diffs.specs.Differences.{at}
-use Rattle.pl_diffs.specs.Rounds.{edge, weight, parent_of, Back, IsParent, Parent, Ranked, Ends}
+use Rattle.pl_diffs.specs.Rounds.{edge, weight, parent_of, Back, IsParent, Ranked, Ends}
 use Rattle.pl_diffs.specs.Walk.{Chain}
 
 -- the parent at which a chain begins

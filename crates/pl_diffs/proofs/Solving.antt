@@ -1,11 +1,11 @@
 -- What the rounds come to.
-use Rattle.std.proofs.Common.{◌≡◌, ◌≢◌, ℕ, zero, suc, ◌<◌, ◌≤◌, ◌+◌, ◌*◌, ◌^◌, inl, inr, ℤ, pos, ◌+ℤ◌, ◌-ℤ◌, ◌≤ℤ◌, ◌<ℤ◌, List, [], ◌∷◌, reverse, length, map, get_or, replicate, unsigned_abs, Option, Some, None, All, Contains, refl, ap, sym, subst, ◌∙◌, arith, mul-le-mul}
+use Rattle.std.proofs.Common.{◌≡◌, ◌≢◌, ℕ, zero, suc, ◌<◌, ◌≤◌, ◌+◌, ◌*◌, ◌^◌, inl, inr, ℤ, pos, ◌+ℤ◌, ◌-ℤ◌, ◌≤ℤ◌, ◌<ℤ◌, List, [], ◌∷◌, reverse, length, map, replicate, unsigned_abs, Option, Some, None, Contains, refl, ap, sym, subst, ◌∙◌, arith, mul-le-mul}
 use Rattle.std.proofs.lemmas.Int.{ints, by_lt_z}
 use Rattle.std.proofs.lemmas.List.{length-reverse, get_or-replicate, length-replicate}
 use Rattle.std.proofs.lemmas.List.Elements.{All-from_get_or}
 use Rattle.std.proofs.lemmas.Bool.{cases_lt}
 use Rattle.pl_diffs.specs.declared.Edge.{Edge}
-use Rattle.pl_diffs.specs.Differences.{at, total, Path, Meets, NoneMeets, IsNegativeCycle, IsGreatest, AreDistances}
+use Rattle.pl_diffs.specs.Differences.{at, Meets}
 use Rattle.pl_diffs.specs.Rounds.{edge, weight, parent_of, Back, Parent, Ranked, Ends, Low, Round, Rounds, IsLeast, IsFound}
 use Rattle.pl_diffs.specs.Walk.{Closed, Rooted}
 use Rattle.pl_diffs.proofs.Chains.{chain_falls, chain_back}
@@ -124,9 +124,9 @@ least es n d0 d ps ends l r =
       at_most_zero = All-from_get_or (λ x. x ≤ℤ pos 0) d (pos 0) (λ k hk. r.ranked.highest k);
       greatest = record {
         above = λ u m h k hk.
-          let a = r.ranked.attained k hk in
-          let along = along_path es (reverse a.path) a.first k (along_reverse es a.path k a.first a.leads) in
-          omega (arith, ints, path_bound (Contains es) u (meets_edge es u m) (map (edge es) (reverse a.path)) a.first k along, h a.first a.within, weight-reverse es a.path, a.sum);
+            let a = r.ranked.attained k hk in
+            let along = along_path es (reverse a.path) a.first k (along_reverse es a.path k a.first a.leads) in
+            omega (arith, ints, path_bound (Contains es) u (meets_edge es u m) (map (edge es) (reverse a.path)) a.first k along, h a.first a.within, weight-reverse es a.path, a.sum);
       };
       bounded = All-from_get_or (λ x. unsigned_abs x ≤ 2 ^ 106) d (pos 0) (λ k hk. size_below (at d k) (2 ^ 106) (r.ranked.highest k) (omega (arith, ints, l k, ap (λ e. at e k) same)));
     }

@@ -4,10 +4,26 @@ use std::test::*;
 #[test]
 fn distances_are_least(rt: HostRuntime) -> Result<(), Fail> {
     let edges = [
-        Edge { from: 0, to: 1, most: -2 },
-        Edge { from: 1, to: 2, most: 1 },
-        Edge { from: 3, to: 2, most: -3 },
-        Edge { from: 2, to: 0, most: 4 },
+        Edge {
+            from: 0,
+            to: 1,
+            most: -2,
+        },
+        Edge {
+            from: 1,
+            to: 2,
+            most: 1,
+        },
+        Edge {
+            from: 3,
+            to: 2,
+            most: -3,
+        },
+        Edge {
+            from: 2,
+            to: 0,
+            most: 4,
+        },
     ];
     let Solved::Potentials(distances) = solve(rt.alloc(), 4, &edges)? else {
         return Err("a cycle")?;
@@ -19,10 +35,26 @@ fn distances_are_least(rt: HostRuntime) -> Result<(), Fail> {
 #[test]
 fn a_cycle_is_found(rt: HostRuntime) -> Result<(), Fail> {
     let edges = [
-        Edge { from: 0, to: 1, most: 5 },
-        Edge { from: 1, to: 2, most: -4 },
-        Edge { from: 0, to: 2, most: -1 },
-        Edge { from: 2, to: 1, most: 3 },
+        Edge {
+            from: 0,
+            to: 1,
+            most: 5,
+        },
+        Edge {
+            from: 1,
+            to: 2,
+            most: -4,
+        },
+        Edge {
+            from: 0,
+            to: 2,
+            most: -1,
+        },
+        Edge {
+            from: 2,
+            to: 1,
+            most: 3,
+        },
     ];
     let Solved::Cycle(places) = solve(rt.alloc(), 3, &edges)? else {
         return Err("numbers")?;

@@ -1,4 +1,4 @@
-use Rattle.std.proofs.Common.{◌≤◌, ◌*◌, length, Some, arith, refl}
+use Rattle.std.proofs.Common.{◌≤◌, ◌*◌, length, arith, refl}
 use Rattle.pl_diffs.proofs.Solving.{rounds_more, rooted_long, closed_cycle, least, low_now}
 use Rattle.pl_diffs.proofs.rounds.settle.Goals as goal
 

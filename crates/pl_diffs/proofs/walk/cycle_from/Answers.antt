@@ -1,5 +1,4 @@
-use Rattle.std.proofs.Common.{◌≡◌, None, length, arith, refl, ◌∙◌}
-use Rattle.pl_diffs.specs.Rounds.{parent_of}
+use Rattle.std.proofs.Common.{◌≡◌, length, arith, refl, ◌∙◌}
 use Rattle.pl_diffs.proofs.Walks.{walk_step, walk_room, walk_closed, walk_rooted, walk_read}
 use Rattle.pl_diffs.proofs.walk.cycle_from.Goals as goal
 
