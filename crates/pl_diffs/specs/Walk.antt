@@ -5,6 +5,10 @@ use Rattle.std.specs.declared.alloc.Global.{Global}
 use Rattle.pl_diffs.specs.declared.Edge.{Edge}
 use Rattle.pl_diffs.specs.Rounds.{edge, parent_of}
 
+-- each parent that is kept is the place of an edge
+abbrev pub AreEdges : List Edge → List (Option ℕ) → Type 0
+AreEdges es ps = (k i : ℕ) → k < length ps → parent_of ps k ≡ Some i → i < length es
+
 -- parents that lead back from one node to another, the last edge first
 abbrev pub Chain : List Edge → List (Option ℕ) → List ℕ → ℕ → ℕ → Type 0
 Chain es ps [] last first = last ≡ first

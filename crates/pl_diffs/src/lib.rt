@@ -29,9 +29,12 @@ pub enum Solved {
     Potentials(Items<i128>),
 }
 
-/// Numbers for the nodes that meet all edges, or a cycle where there are none, by the method of Bellman and Ford.
+/// Numbers for the nodes that meet all edges, or a cycle which shows that there are none.
 ///
-/// The numbers are the distances from an added root with an edge of weight 0 to each node.
+/// The numbers are the distances from an added root with an edge of weight 0 to each node, found by
+/// the method of Bellman and Ford (Cormen, Leiserson, Rivest and Stein, Introduction to Algorithms,
+/// third edition, section 24.4). The time is at most the count of rounds, 4,096, times that of edges.
+/// `Memory` comes only for want of memory.
 pub fn solve(alloc: Global, nodes: u32, edges: &[Edge]) -> Result<Solved, Memory>
     requires nodes { nodes ≤ 4096 }
     requires edges { length edges.now ≤ 4096 }

@@ -48,7 +48,8 @@ fn relax(edges: &[Edge], dist: &mut [i128], parent: &mut [Option<u32>]) -> Optio
 }
 
 // Takes rounds until one changes nothing, or a walk back along the parents finds a cycle.
-// It walks after round 1, 2, 4 and so on: a cycle is found at most twice as late, and the walks cost next to nothing.
+// It walks after round 1, 2, 4 and so on: a cycle is found at most twice as late as by a walk after
+// each round, and the walks cost next to nothing.
 pub fn settle(
     alloc: Global,
     edges: &[Edge],

@@ -1,30 +1,17 @@
+ghost use Rattle.std.specs.Prelude.{◌≡◌};
+
 use super::*;
 use std::test::*;
 
+fn edge(from: u32, to: u32, most: i128) -> Edge
+    ensures { result ≡ record { from = from; to = to; most = most } }
+{
+    Edge { from, to, most }
+}
+
 #[test]
 fn distances_are_least(rt: HostRuntime) -> Result<(), Fail> {
-    let edges = [
-        Edge {
-            from: 0,
-            to: 1,
-            most: -2,
-        },
-        Edge {
-            from: 1,
-            to: 2,
-            most: 1,
-        },
-        Edge {
-            from: 3,
-            to: 2,
-            most: -3,
-        },
-        Edge {
-            from: 2,
-            to: 0,
-            most: 4,
-        },
-    ];
+    let edges = [edge(0, 1, -2), edge(1, 2, 1), edge(3, 2, -3), edge(2, 0, 4)];
     let Solved::Potentials(distances) = solve(rt.alloc(), 4, &edges)? else {
         return Err("a cycle")?;
     };
@@ -34,28 +21,7 @@ fn distances_are_least(rt: HostRuntime) -> Result<(), Fail> {
 
 #[test]
 fn a_cycle_is_found(rt: HostRuntime) -> Result<(), Fail> {
-    let edges = [
-        Edge {
-            from: 0,
-            to: 1,
-            most: 5,
-        },
-        Edge {
-            from: 1,
-            to: 2,
-            most: -4,
-        },
-        Edge {
-            from: 0,
-            to: 2,
-            most: -1,
-        },
-        Edge {
-            from: 2,
-            to: 1,
-            most: 3,
-        },
-    ];
+    let edges = [edge(0, 1, 5), edge(1, 2, -4), edge(0, 2, -1), edge(2, 1, 3)];
     let Solved::Cycle(places) = solve(rt.alloc(), 3, &edges)? else {
         return Err("numbers")?;
     };

@@ -1,7 +1,7 @@
 // The walk back along the parents.
-ghost use Rattle.std.specs.Prelude.{◌≡◌, ◌<◌, ◌≤◌, ℕ, Some, length, drop, reverse, IfOk};
-ghost use Rattle.pl_diffs.specs.Rounds.{Ends, parent_of};
-ghost use Rattle.pl_diffs.specs.Walk.{WalkedBack};
+ghost use Rattle.std.specs.Prelude.{◌≡◌, ◌<◌, ◌≤◌, length, drop, reverse, IfOk};
+ghost use Rattle.pl_diffs.specs.Rounds.{Ends};
+ghost use Rattle.pl_diffs.specs.Walk.{AreEdges, WalkedBack};
 
 use crate::Edge;
 use std::alloc::{AllocError, Global};
@@ -23,7 +23,7 @@ pub fn cycle_from(
 ) -> Result<Option<Vec<u32>>, AllocError>
     requires ends { Ends edges.now (length parent.now) }
     requires last { last < length parent.now }
-    requires parents { (k i : ℕ) → k < length parent.now → parent_of parent.now k ≡ Some i → i < length edges.now }
+    requires parents { AreEdges edges.now parent.now }
     ensures { IfOk result (λ o. WalkedBack edges.now parent.now last o) }
 {
     let mut place: Vec<Option<usize>> = vec![in alloc; None; parent.len()]?;
