@@ -43,7 +43,8 @@ pub record AreDistances (edges : List Edge) (nodes : ℕ) (d : List ℤ) : Type 
 
 -- no numbers that meet all edges and are at most 0 are above these at a node
 pub record IsGreatest (edges : List Edge) (nodes : ℕ) (d : List ℤ) : Type 0 where
-  pub above : (u : ℕ → ℤ) → Meets edges u → ((k : ℕ) → k < nodes → u k ≤ℤ pos 0) → (k : ℕ) → k < nodes → u k ≤ℤ at d k
+  pub above :
+      (u : ℕ → ℤ) → Meets edges u → ((k : ℕ) → k < nodes → u k ≤ℤ pos 0) → (k : ℕ) → k < nodes → u k ≤ℤ at d k
 
 -- a closed path within a set of edges: it has an edge, and ends at the node where it begins
 pub record IsClosedPath (Within : Edge → Type 0) (path : List Edge) : Type 0 where

@@ -33,7 +33,8 @@ pub enum Solved {
 ///
 /// The numbers are the distances from an added root with an edge of weight 0 to each node, found by
 /// the method of Bellman and Ford (Cormen, Leiserson, Rivest and Stein, Introduction to Algorithms,
-/// third edition, section 24.4). The time is at most the count of rounds, 4,096, times that of edges.
+/// third edition, section 24.4). It takes at most as many rounds over the edges as the least power of
+/// two that is not below `nodes`.
 /// `Memory` comes only for want of memory.
 pub fn solve(alloc: Global, nodes: u32, edges: &[Edge]) -> Result<Solved, Memory>
     requires nodes { nodes ≤ 4096 }
@@ -45,7 +46,7 @@ pub fn solve(alloc: Global, nodes: u32, edges: &[Edge]) -> Result<Solved, Memory
     // A cycle comes exactly where no numbers meet all edges.
     ensures unsolvable { IfOk result (λ s. IsCycle s ↔ NoneMeets edges.now) }
     ensures cycle { IfOk result (λ s. IfCycle s (IsNegativeCycle edges.now)) }
-    ensures short { IfOk result (λ s. IfCycle s (λ numbers. length numbers ≤ nodes)) }
+    ensures short { IfOk result (λ s. IfCycle s (λ places. length places ≤ nodes)) }
 
     ensures distances { IfOk result (λ s. IfPotentials s (AreDistances edges.now nodes)) }
     ensures meets { IfOk result (λ s. IfPotentials s (λ d. Meets edges.now (at d))) }
