@@ -1,0 +1,4 @@
+pub mod Differences
+pub mod Outcome
+pub mod Rounds
+pub mod Walk
