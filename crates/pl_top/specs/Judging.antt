@@ -30,6 +30,11 @@ pub record IsUndone (bytes : List ℕ) (place : Pos) (duty : Duty) : Type 0 wher
 pub record IsNotBuilt (bytes : List ℕ) : Type 0 where
   pub none : (program : Program) → IsFile bytes program → ⊥
 
+-- the status and the line for the one function of a file
+pub data JudgesMain (main : Fun) : ℕ → List ℕ → Type 0 where
+  all_done : AllDone main → Good main → JudgesMain main 0 accepted
+  one_undone : (place : Pos) (duty : Duty) → Undone main place duty → JudgesMain main 1 (duty_line place duty)
+
 -- the status and the line for the bytes of a file
 pub data JudgesBytes (bytes : List ℕ) : ℕ → List ℕ → Type 0 where
   is_accepted : IsAccepted bytes → JudgesBytes bytes 0 accepted

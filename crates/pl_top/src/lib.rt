@@ -2,9 +2,13 @@
 #![tactic(auto)]
 
 mod fetch;
+mod judge;
 mod lines;
+mod reading;
 mod token;
+mod top;
 mod words;
 
 pub use token::{Kind, Token};
+pub use top::{check_command, pulse_main};
 pub use words::{Command, Usage, UsageKind, WordError, read_words};
