@@ -5,3 +5,5 @@ pub mod TextLaws
 pub mod HeapLaws
 pub mod AtomLaws
 pub mod StepLaws
+pub mod GoodLaws
+pub mod WalkLaws
