@@ -7,3 +7,4 @@ pub mod AtomLaws
 pub mod StepLaws
 pub mod GoodLaws
 pub mod WalkLaws
+pub mod Example

@@ -3,7 +3,9 @@
 
 mod known;
 mod text;
+mod laws;
 mod walk;
 
 pub use known::Term;
+pub use laws::walk_laws;
 pub use walk::{Duty, WalkError};
