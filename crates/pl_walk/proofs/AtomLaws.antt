@@ -31,7 +31,7 @@ abbrev pub give : ℕ → Value → Values → Values
 give k w vs = λ i. if same_number k i then Some w else vs i
 
 -- a value that stood before one is given
-give_keeps : (b : Bool) (x : Value) (o : Option Value) (w : Value) → (b ≡ true → o ≡ None) → o ≡ Some w → (if b then Some x else o) ≡ Some w
+pub give_keeps : (b : Bool) (x : Value) (o : Option Value) (w : Value) → (b ≡ true → o ≡ None) → o ≡ Some w → (if b then Some x else o) ≡ Some w
 give_keeps true x o w n e = let k = n refl in cc
 give_keeps false x o w n e = e
 
@@ -44,7 +44,7 @@ pub give_same : (k : ℕ) (x : Value) (vs : Values) → give k x vs k ≡ Some x
 give_same k x vs = ap (λ b. if b then Some x else vs k) (number_refl k)
 
 -- a value that isn't given
-give_none : (b : Bool) (x : Value) (o : Option Value) → (b ≡ true → ⊥) → o ≡ None → (if b then Some x else o) ≡ None
+pub give_none : (b : Bool) (x : Value) (o : Option Value) → (b ≡ true → ⊥) → o ≡ None → (if b then Some x else o) ≡ None
 give_none true x o n e = absurd (n refl)
 give_none false x o n e = e
 

@@ -43,17 +43,17 @@ block_past [] = refl
 block_past (x ∷ h) = block_past h
 
 -- the cells of a block that may be another
-cell_if : (t : Bool) (x y : Option HeapBlock) (i f : ℕ) → block_cell (if t then x else y) i f ≡ (if t then block_cell x i f else block_cell y i f)
+pub cell_if : (t : Bool) (x y : Option HeapBlock) (i f : ℕ) → block_cell (if t then x else y) i f ≡ (if t then block_cell x i f else block_cell y i f)
 cell_if true x y i f = refl
 cell_if false x y i f = refl
 
 -- the token of a block that may be another
-token_if : (t : Bool) (x y : Option HeapBlock) → block_token (if t then x else y) ≡ (if t then block_token x else block_token y)
+pub token_if : (t : Bool) (x y : Option HeapBlock) → block_token (if t then x else y) ≡ (if t then block_token x else block_token y)
 token_if true x y = refl
 token_if false x y = refl
 
 -- a new block of one cell has that cell alone
-new_cell : (t : Bool) (w : Value) (o : Option HeapBlock) (i f : ℕ) → (t ≡ true → o ≡ None) →
+pub new_cell : (t : Bool) (w : Value) (o : Option HeapBlock) (i f : ℕ) → (t ≡ true → o ≡ None) →
     (if t then block_cell (Some (one_cell w)) i f else block_cell o i f) ≡ (if t && same_number 0 i && same_number 0 f then Some (full w) else block_cell o i f)
 new_cell false w o i f h = refl
 new_cell true w o zero zero h = refl
@@ -71,7 +71,7 @@ resource_alloc h w = fun_ext (λ p. at p)
     at (FreeToken c) = ap block_token (block_new h c (Some (one_cell w))) ∙ token_if (same_number (length h) c) (Some (one_cell w)) (block_at h c)
 
 -- a freed block of one cell had that cell alone
-old_cell : (t : Bool) (w : Value) (o : Option HeapBlock) (i f : ℕ) → (t ≡ true → o ≡ Some (one_cell w)) →
+pub old_cell : (t : Bool) (w : Value) (o : Option HeapBlock) (i f : ℕ) → (t ≡ true → o ≡ Some (one_cell w)) →
     (if t then None else block_cell o i f) ≡ (if t && same_number 0 i && same_number 0 f then None else block_cell o i f)
 old_cell false w o i f h = refl
 old_cell true w o zero zero h = refl
@@ -101,7 +101,7 @@ pub one_cells_none : OneCells []
 one_cells_none = record { each = λ b block e. cc }
 
 -- one of two blocks
-one_of : (t : Bool) (x y : Option HeapBlock) (P : HeapBlock → Type 0) → ((block : HeapBlock) → x ≡ Some block → P block) → ((block : HeapBlock) → y ≡ Some block → P block) → (block : HeapBlock) → (if t then x else y) ≡ Some block → P block
+pub one_of : (t : Bool) (x y : Option HeapBlock) (P : HeapBlock → Type 0) → ((block : HeapBlock) → x ≡ Some block → P block) → ((block : HeapBlock) → y ≡ Some block → P block) → (block : HeapBlock) → (if t then x else y) ≡ Some block → P block
 one_of true x y P h k = h
 one_of false x y P h k = k
 
@@ -118,7 +118,7 @@ one_cells_free h b old at k = record {
 }
 
 -- a block with a share of a cell is live
-live_cell : (o : Option HeapBlock) (w : Value) (s : Share) → ((block : HeapBlock) → o ≡ Some block → (v : Value) × (block ≡ one_cell v)) → block_cell o 0 0 ≡ Some s → s.value ≡ w → o ≡ Some (one_cell w)
+pub live_cell : (o : Option HeapBlock) (w : Value) (s : Share) → ((block : HeapBlock) → o ≡ Some block → (v : Value) × (block ≡ one_cell v)) → block_cell o 0 0 ≡ Some s → s.value ≡ w → o ≡ Some (one_cell w)
 live_cell None w s one e v = cc
 live_cell (Some block) w s one e v =
     let r = one block refl in

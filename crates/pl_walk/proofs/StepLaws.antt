@@ -80,7 +80,7 @@ pub stands_keeps : {vs us : Values} → Extends vs us → (names : Names) (vars 
 stands_keeps h names vars k = record { at = λ y. term_keeps h (names y) (vars y) (k.at y) }
 
 -- one of two names
-term_if : (vs : Values) (b : Bool) (t : Term) (w : Value) (o : Option Term) (v : Option Value) → eval vs t ≡ Some w → TermFits vs o v → TermFits vs (if b then Some t else o) (if b then Some w else v)
+pub term_if : (vs : Values) (b : Bool) (t : Term) (w : Value) (o : Option Term) (v : Option Value) → eval vs t ≡ Some w → TermFits vs o v → TermFits vs (if b then Some t else o) (if b then Some w else v)
 term_if vs true t w o v e h = e
 term_if vs false t w o v e h = h
 
@@ -89,7 +89,7 @@ pub stands_put : (vs : Values) (names : Names) (vars : Vars) (x : Name) (t : Ter
 stands_put vs names vars x t w h e = record { at = λ y. term_if vs (bytes_eq y x) t w (names y) (vars y) e (h.at y) }
 
 -- one of two names has its sort
-sort_if : (b : Bool) (k : Sort) (w : Value) (o : Option Sort) (v : Option Value) → HasSort k w → SortFits o v → SortFits (if b then Some k else o) (if b then Some w else v)
+pub sort_if : (b : Bool) (k : Sort) (w : Value) (o : Option Sort) (v : Option Value) → HasSort k w → SortFits o v → SortFits (if b then Some k else o) (if b then Some w else v)
 sort_if true k w o v e h = e
 sort_if false k w o v e h = h
 
@@ -98,7 +98,7 @@ pub sorts_bind : (scope : Scope) (vars : Vars) (x : Name) (k : Sort) (w : Value)
 sorts_bind scope vars x k w h e = record { at = λ y. sort_if (bytes_eq y x) k w (sort_of y scope) (vars y) e (h.at y) }
 
 -- what has a sort has a value of it
-sort_value : (o : Option Sort) (v : Option Value) (k : Sort) → SortFits o v → o ≡ Some k → (w : Value) × (v ≡ Some w) × HasSort k w
+pub sort_value : (o : Option Sort) (v : Option Value) (k : Sort) → SortFits o v → o ≡ Some k → (w : Value) × (v ≡ Some w) × HasSort k w
 sort_value None v k h e = cc
 sort_value (Some l) None k h e = absurd h
 sort_value (Some l) (Some w) k h e = let q : l ≡ k = cc in (w, refl, subst (λ m. HasSort m w) q h)
@@ -119,7 +119,7 @@ expr_value vs names vars (Int place n) t h e = let k : Literal n ≡ t = cc in a
 expr_value vs names vars (Var place y) t h e = term_value vs (names y) (vars y) t (h.at y) e
 
 -- two blocks of one term are one
-block_same : (v : Option Value) (a b : ℕ) → v ≡ Some (values.Block a) → v ≡ Some (values.Block b) → a ≡ b
+pub block_same : (v : Option Value) (a b : ℕ) → v ≡ Some (values.Block a) → v ≡ Some (values.Block b) → a ≡ b
 block_same v a b h k = let e : Some (values.Block a) ≡ Some (values.Block b) = sym h ∙ k in cc
 
 module _ (s : Known) (scope : Scope) (vs : Values) (vars : Vars) (x frame : Resource) (h : Heap) (fits : Fits s scope vs vars x) (adds : Adds x frame (resource_of h)) (cells : OneCells h) where
