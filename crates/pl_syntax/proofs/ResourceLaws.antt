@@ -2,10 +2,10 @@
 use Rattle.std.proofs.Common.{◌≡◌, ◌≢◌, ℕ, zero, suc, Option, Some, None, Bool, true, false, ◌&&◌, if◌then◌else◌, List, [], ◌∷◌, ◌++◌, refl, sym, ap, ◌∙◌, subst, ◌⊎◌, inl, inr, slice_get, set, true≢false, arith}
 use mathlib.Core.Path.{fun_ext}
 use Rattle.std.proofs.lemmas.Bool.{cases_Bool}
-use Rattle.pl_base.specs.Permission.{Permission, IsLike, PermissionAdds, whole, same_number}
+use Rattle.pl_base.specs.Permission.{Permission, IsLike, whole, same_number}
 use Rattle.pl_base.proofs.PermissionLaws.{permission_comm, permission_assoc, permission_full, like_refl, number_sound, number_refl}
 use Rattle.pl_syntax.specs.Values.{Value}
-use Rattle.pl_syntax.specs.Resource.{Mark, Plain, Atomic, Place, Cell, FreeToken, same_place, Share, Resource, Joins, ShareAdds, Adds, nothing, IsEmpty, put_at, Sums}
+use Rattle.pl_syntax.specs.Resource.{Mark, Place, Cell, FreeToken, same_place, Share, Resource, ShareAdds, Adds, nothing, IsEmpty, put_at, Sums}
 use Rattle.pl_syntax.specs.Holds.{Owns}
 
 -- two shares of one place add in either order

@@ -1,10 +1,9 @@
 -- The laws of terms and atoms.
 use Rattle.std.proofs.Common.{◌≡◌, ℕ, ◌+◌, ◌≤◌, Option, Some, None, Bool, true, false, if◌then◌else◌, List, [], ◌∷◌, ◌++◌, length, length-append, refl, sym, ap, ◌∙◌, subst, arith}
-use Rattle.pl_base.specs.Permission.{Permission, same_number}
+use Rattle.pl_base.specs.Permission.{same_number}
 use Rattle.pl_base.proofs.PermissionLaws.{number_sound, number_refl}
 use Rattle.pl_syntax.specs.Values.{Value}
-use Rattle.pl_syntax.specs.Resource.{Resource, Adds, IsEmpty, nothing}
-use Rattle.pl_syntax.specs.Holds.{OwnsCell, OwnsBlock}
+use Rattle.pl_syntax.specs.Resource.{Resource, Adds, nothing}
 use Rattle.pl_syntax.proofs.ResourceLaws.{adds_comm, adds_assoc, adds_empty, adds_nothing', nothing_empty}
 use Rattle.pl_walk.specs.declared.known.Term.{Term}
 use Rattle.pl_walk.specs.declared.known.Term.TheVariants.{Literal, Variable}

@@ -1,15 +1,14 @@
 -- A program whose duties are all done, and two that leave one undone: the premises of the laws can be met.
-use Rattle.std.proofs.Common.{◌≡◌, ℕ, pos, Some, None, Bool, false, List, [], ◌∷◌, ◌++◌, refl, sym, ap, ap₂, inl, inr, rules, arith}
+use Rattle.std.proofs.Common.{◌≡◌, ℕ, pos, false, List, [], ◌∷◌, ◌++◌, refl, sym, ap, ap₂, inl, inr, rules, arith}
 use lib.Chars.{codes}
 use Rattle.std.specs.Fmt.{digits, decimal}
 use Rattle.pl_base.specs.declared.pos.Pos.{Pos}
 use Rattle.pl_base.specs.Permission.{whole}
-use Rattle.pl_syntax.specs.Tree.{Name, Expr, Int, Var, CellExpr, Whole, Stmt, Load, Alloc, Free, Print, Fun}
-use Rattle.pl_syntax.specs.Sorts.{AreSorted, IsMain}
-use Rattle.pl_walk.specs.declared.known.Term.{Term}
+use Rattle.pl_syntax.specs.Tree.{Name, Int, Var, Whole, Stmt, Load, Alloc, Free, Print, Fun}
+use Rattle.pl_syntax.specs.Sorts.{IsMain}
 use Rattle.pl_walk.specs.declared.known.Term.TheVariants.{Literal, Variable}
-use Rattle.pl_walk.specs.Terms.{Atom, Points, Block}
-use Rattle.pl_walk.specs.Rules.{Known, start, with_variable, allocated, put, Derives}
+use Rattle.pl_walk.specs.Terms.{Block}
+use Rattle.pl_walk.specs.Rules.{Known, start, allocated, put, Derives}
 use Rattle.pl_walk.specs.declared.walk.Duty.TheVariants.{Missing, Leftover}
 use Rattle.pl_walk.specs.Walk.{WalksLoad, WalksFree, Walks, atoms_text, Undone, AllDone}
 use Rattle.pl_walk.specs.Good.{Good}

@@ -1,14 +1,13 @@
 -- What a change of the heap does to what there is to own.
-use Rattle.std.proofs.Common.{◌≡◌, ◌≢◌, ℕ, zero, suc, pos, Option, Some, None, Bool, true, false, ◌&&◌, if◌then◌else◌, List, [], ◌∷◌, ◌++◌, length, refl, sym, ap, ◌∙◌, subst, slice_get, set}
+use Rattle.std.proofs.Common.{◌≡◌, ℕ, zero, suc, pos, Option, Some, None, Bool, true, false, ◌&&◌, if◌then◌else◌, [], ◌∷◌, ◌++◌, length, refl, sym, ap, ◌∙◌, set}
 use mathlib.Core.Path.{fun_ext}
-use Rattle.std.proofs.lemmas.Bool.{cases_Bool}
 use Rattle.pl_base.specs.Permission.{Permission, whole, same_number}
 use Rattle.pl_base.proofs.PermissionLaws.{number_sound}
 use Rattle.pl_syntax.specs.Values.{Value, Number}
-use Rattle.pl_syntax.specs.Resource.{Mark, Plain, Atomic, Place, Cell, FreeToken, same_place, Share, Resource, Adds, IsEmpty, put_at}
+use Rattle.pl_syntax.specs.Resource.{Mark, Plain, Place, Cell, FreeToken, Share, Resource, Adds, IsEmpty, put_at}
 use Rattle.pl_syntax.specs.Holds.{Owns}
 use Rattle.pl_syntax.proofs.ResourceLaws.{owned_within}
-use Rattle.pl_walk.specs.Machine.{HeapBlock, Heap, if_live, block_at, field_at, cell_share, block_cell, block_token, resource_of, one_cell}
+use Rattle.pl_walk.specs.Machine.{HeapBlock, Heap, block_at, block_cell, block_token, resource_of, one_cell}
 
 -- the share of a whole plain place
 abbrev pub full : Value → Share

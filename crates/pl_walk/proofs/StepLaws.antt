@@ -1,22 +1,22 @@
 -- Each statement, in any frame: where what it takes holds of a part, it goes, and what it gives holds after.
-use Rattle.std.proofs.Common.{◌≡◌, ℕ, ℤ, pos, ◌+◌, Option, Some, None, Bool, true, false, if◌then◌else◌, List, [], ◌∷◌, ◌++◌, length, le_refl, refl, sym, ap, ◌∙◌, subst, subst₂, set}
+use Rattle.std.proofs.Common.{◌≡◌, ℕ, ℤ, pos, Option, Some, None, Bool, true, false, if◌then◌else◌, List, [], ◌∷◌, ◌++◌, length, le_refl, refl, sym, ap, ◌∙◌, subst, set}
 use Rattle.std.specs.Str.{bytes_eq}
 use Rattle.pl_base.specs.declared.pos.Pos.{Pos}
-use Rattle.pl_base.specs.Permission.{Permission, whole}
+use Rattle.pl_base.specs.Permission.{whole}
 use Rattle.pl_syntax.specs.declared.expr.Sort.{Sort}
 use Rattle.pl_syntax.specs.declared.expr.Sort.TheVariants.{I64, RefI64}
-use Rattle.pl_syntax.specs.Tree.{Name, Expr, Int, Var, CellExpr, Whole, Stmt, Load, Alloc, Free, Print}
+use Rattle.pl_syntax.specs.Tree.{Name, Expr, Int, Var, Whole, Stmt, Load, Alloc, Free, Print}
 use Rattle.pl_syntax.specs.Values as values
 use Rattle.pl_syntax.specs.Values.{Value, Number, Truth, Null, HasSort, Vars, bind, value_of}
 use Rattle.pl_syntax.specs.Sorts.{Scope, sort_of, IsInteger, AreSorted}
-use Rattle.pl_syntax.specs.Resource.{Plain, Place, Cell, FreeToken, Resource, Adds, IsEmpty, nothing, put_at}
-use Rattle.pl_syntax.specs.Holds.{Owns, OwnsCell, OwnsBlock}
+use Rattle.pl_syntax.specs.Resource.{Plain, Cell, FreeToken, Resource, Adds, nothing, put_at}
+use Rattle.pl_syntax.specs.Holds.{Owns}
 use Rattle.pl_syntax.proofs.ResourceLaws.{adds_comm, adds_assoc, adds_assoc', put_adds, give_up, owns_put}
 use Rattle.pl_walk.specs.declared.known.Term.{Term}
-use Rattle.pl_walk.specs.declared.known.Term.TheVariants.{Literal, Variable}
-use Rattle.pl_walk.specs.Terms.{Atom, Points, Block, Values, eval, AtomHolds, AllHold}
-use Rattle.pl_walk.specs.Rules.{Names, put, Known, term_of, next_of, with_variable, allocated, AllocRule, LoadRule, FreeRule, PrintRule, Rule}
-use Rattle.pl_walk.specs.Machine.{Heap, block_at, block_cell, block_token, resource_of, one_cell, Event, AllocEvent, LoadEvent, FreeEvent, PrintEvent, Effect, Goes, alloc_effect, load_at, load_block, free_at, free_block, print_effect, effect}
+use Rattle.pl_walk.specs.declared.known.Term.TheVariants.{Literal}
+use Rattle.pl_walk.specs.Terms.{Points, Block, Values, eval, AtomHolds, AllHold}
+use Rattle.pl_walk.specs.Rules.{Names, put, Known, term_of, next_of, allocated, AllocRule, LoadRule, FreeRule, PrintRule, Rule}
+use Rattle.pl_walk.specs.Machine.{Heap, block_at, block_cell, block_token, resource_of, one_cell, Event, AllocEvent, LoadEvent, FreeEvent, PrintEvent, Goes, alloc_effect, load_at, load_block, free_at, free_block, print_effect, effect}
 use Rattle.pl_walk.proofs.AtomLaws.{Extends, extends_refl, Fresh, give, extends_give, give_same, fresh_give, length_more, eval_keeps, all_keeps, alone, all_both, take_out}
 use Rattle.pl_walk.proofs.HeapLaws.{full, one_token, OneCells, resource_alloc, resource_free, block_past, one_cells_new, one_cells_free, owned_live}
 

@@ -1,16 +1,16 @@
 -- The walk is in the rules, and it is determined by the function.
-use Rattle.std.proofs.Common.{◌≡◌, ◌≢◌, ◌⊎◌, ℕ, pos, Some, List, [], ◌∷◌, ◌++◌, refl, sym, ap, ap₂, ◌∙◌, subst, inl, inr}
+use Rattle.std.proofs.Common.{◌≡◌, pos, Some, List, [], ◌∷◌, ◌++◌, refl, sym, ap, ap₂, ◌∙◌, subst, inl, inr}
 use Rattle.std.proofs.lemmas.List.Elements.{All-head, All-tail}
 use Rattle.pl_base.specs.declared.pos.Pos.{Pos}
-use Rattle.pl_base.specs.Permission.{Permission, whole}
-use Rattle.pl_syntax.specs.Tree.{Name, Expr, CellExpr, Whole, Stmt, Load, Alloc, Free, Print, Fun}
+use Rattle.pl_base.specs.Permission.{whole}
+use Rattle.pl_syntax.specs.Tree.{Name, Expr, Whole, Stmt, Load, Alloc, Free, Print, Fun}
 use Rattle.pl_walk.specs.declared.known.Term.{Term}
-use Rattle.pl_walk.specs.declared.known.Term.TheVariants.{Literal, Variable}
+use Rattle.pl_walk.specs.declared.known.Term.TheVariants.{Literal}
 use Rattle.pl_walk.specs.declared.walk.Duty.{Duty}
-use Rattle.pl_walk.specs.declared.walk.Duty.TheVariants.{Missing, Leftover}
+use Rattle.pl_walk.specs.declared.walk.Duty.TheVariants.{Leftover}
 use Rattle.pl_walk.specs.Terms.{Atom, Points, Block}
-use Rattle.pl_walk.specs.Rules.{Known, start, put, term_of, allocated, AllocRule, LoadRule, FreeRule, PrintRule, Rule, Rules, Derives}
-use Rattle.pl_walk.specs.Walk.{PointsTo, PointsWhole, BlockOf, NoneOf, WalksLoad, WalksFree, WalksOver, Walks, atoms_text, LoadRefused, FreeRefused, BlockRefused, Refuses, pos_of, Stops, LeavesOver, Undone, AllDone}
+use Rattle.pl_walk.specs.Rules.{Known, start, put, term_of, allocated, AllocRule, Rule, Rules, Derives}
+use Rattle.pl_walk.specs.Walk.{PointsTo, PointsWhole, BlockOf, NoneOf, WalksLoad, WalksFree, WalksOver, Walks, atoms_text, LoadRefused, FreeRefused, BlockRefused, Refuses, pos_of, Stops, Undone, AllDone}
 
 -- a statement whose duties are done keeps its rule
 pub over_rule : (s : Known) (st : Stmt) (t : Known) → WalksOver s st t → Rule s st t

@@ -14,5 +14,4 @@ pub fn walk_laws()
     ensures derives { (f : Fun) → AllDone f → Derives f }
     ensures exclusive { (f : Fun) (place : Pos) (duty : Duty) → AllDone f → Undone f place duty → ⊥ }
     ensures once { (f : Fun) (p q : Pos) (d e : Duty) → Undone f p d → Undone f q e → (p ≡ q) × (d ≡ e) }
-{
-}
+{}
