@@ -2,8 +2,8 @@
 #![tactic(auto)]
 
 mod known;
-mod text;
 mod laws;
+mod text;
 mod walk;
 
 pub use known::Term;
