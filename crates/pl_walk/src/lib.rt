@@ -2,8 +2,10 @@
 #![tactic(auto)]
 
 mod known;
+mod laws;
 mod text;
 mod walk;
 
 pub use known::Term;
+pub use laws::walk_laws;
 pub use walk::{Duty, WalkError};
