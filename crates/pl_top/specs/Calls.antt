@@ -6,18 +6,14 @@ use Rattle.pl_base.specs.Outside.{Files, file_in}
 use Rattle.pl_walk.specs.declared.walk.Duty.{Duty}
 use Rattle.pl_top.specs.declared.words.Usage.{Usage}
 use Rattle.pl_top.specs.Telling.{Given, Takes, AppendsPart}
-use Rattle.pl_top.specs.Words.{Asked, check}
+use Rattle.pl_top.specs.Words.{Asked, source_of}
 use Rattle.pl_top.specs.Lines.{usage_line}
 use Rattle.pl_top.specs.Judging.{IsAccepted, IsUndone, IsNotBuilt, Judges}
-
--- the file that a command takes
-abbrev pub file_of : Asked → List ℕ
-file_of (check file) = file
 
 -- what the file gave, and the status and the line for it
 pub record Judged (c : Asked) (files : Option Files) (status : ℕ) (text : List ℕ) : Type 0 where
   pub given : Given
-  pub takes : Takes files (file_of c) 1048576 given
+  pub takes : Takes files (source_of c) 1048576 given
   pub judged : Judges given status text
 
 -- the command was answered: exactly its line was written, and no file changed

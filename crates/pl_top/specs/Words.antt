@@ -15,6 +15,10 @@ use Rattle.pl_top.specs.declared.words.WordError.TheVariants as e
 pub data Asked : Type 0 where
   check : (file : List ℕ) → Asked
 
+-- the source file that a command takes
+abbrev pub source_of : Asked → List ℕ
+source_of (check file) = file
+
 abbrev pub asked_of : Command → Asked
 asked_of (Check file) = check file
 

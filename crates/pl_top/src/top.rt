@@ -27,8 +27,7 @@ fn answer<H: Host>(alloc: Global, command: &Command, host: &mut H) -> Result<u8,
     ensures in_faults { Counts (is_in result) (H.in_faults host.old) (H.in_faults host.new) }
     ensures out_faults { Counts (is_out result) (H.out_faults host.old) (H.out_faults host.new) }
 {
-    let Command::Check(name) = command;
-    let file = take_file(host, name.text(), MOST)?;
+    let file = take_file(host, command.source(), MOST)?;
     let answer = judge(alloc, &file)?;
     write_text(host, answer.text.as_slice())?;
     Ok(answer.status)

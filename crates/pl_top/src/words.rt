@@ -12,6 +12,19 @@ pub enum Command {
     Check(Name),
 }
 
+impl Command {
+    ghost use Rattle.pl_top.specs.Words.{asked_of, source_of};
+
+    /// The name of the source file that it takes.
+    pub fn source(&self) -> &str
+        ensures { result.now ≡ source_of (asked_of self.now) }
+    {
+        match self {
+            Command::Check(file) => file.text(),
+        }
+    }
+}
+
 /// Why words are refused.
 #[derive(Clone, Copy, Debug, PartialEq, Eq)]
 pub enum UsageKind {

@@ -8,4 +8,4 @@ mod walk;
 
 pub use known::Term;
 pub use laws::walk_laws;
-pub use walk::{Duty, WalkError};
+pub use walk::{Duty, WalkError, walk_function};
