@@ -1,5 +1,5 @@
 -- From the program's tree to plain data.
-use Rattle.std.specs.Prelude.{List, map}
+use Rattle.std.specs.Prelude.{map}
 use Rattle.pl_syntax.specs.declared.expr.Expr as expr
 use Rattle.pl_syntax.specs.declared.expr.Expr.TheVariants as e
 use Rattle.pl_syntax.specs.declared.expr.CellExpr as cell

@@ -1,5 +1,5 @@
 -- Resources: what a part of the state may be used for.
-use Rattle.std.specs.Prelude.{◌≡◌, ◌≢◌, ℕ, Option, Some, None, Bool, true, false, ◌&&◌, List, [], ◌∷◌, if◌then◌else◌}
+use Rattle.std.specs.Prelude.{◌≡◌, ℕ, Option, Some, None, Bool, false, ◌&&◌, List, [], ◌∷◌, if◌then◌else◌}
 use Rattle.pl_base.specs.Permission.{Permission, PermissionAdds, same_number}
 use Rattle.pl_syntax.specs.Values.{Value}
 

@@ -1,11 +1,11 @@
 -- The sort rules: each name that is used was bound before, with the sort that its use needs.
-use Rattle.std.specs.Prelude.{◌≡◌, ℤ, Bool, false, Option, Some, None, List, [], ◌∷◌, if◌then◌else◌, FitsSigned}
+use Rattle.std.specs.Prelude.{◌≡◌, false, Option, Some, None, List, [], ◌∷◌, if◌then◌else◌, FitsSigned}
 use Rattle.std.specs.Int.{w64}
 use Rattle.std.specs.Str.{bytes_eq}
 use lib.Chars.{codes}
 use Rattle.pl_syntax.specs.declared.expr.Sort.{Sort}
 use Rattle.pl_syntax.specs.declared.expr.Sort.TheVariants.{I64, RefI64}
-use Rattle.pl_syntax.specs.Tree.{Name, Expr, Int, Var, CellExpr, Whole, Stmt, Load, Alloc, Free, Print, Fun, Decl, Function, Program}
+use Rattle.pl_syntax.specs.Tree.{Name, Expr, Int, Var, CellExpr, Whole, Stmt, Load, Alloc, Free, Print, Fun, Function, Program}
 
 -- the names that are bound, with their sorts, the newest first
 abbrev pub Scope : Type 0

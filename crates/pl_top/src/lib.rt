@@ -12,3 +12,6 @@ mod words;
 pub use token::{Kind, Token};
 pub use top::{check_command, pulse_main};
 pub use words::{Command, Usage, UsageKind, WordError, read_words};
+
+#[cfg(test)]
+mod tests;

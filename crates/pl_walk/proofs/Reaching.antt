@@ -1,26 +1,25 @@
 -- How far a walk has come in a list of statements that keep the sort rules.
-use Rattle.std.proofs.Common.{◌≡◌, ℕ, zero, suc, ◌+◌, ◌≤◌, ◌<◌, get_or, map, Bool, true, false, Option, Some, None, List, [], ◌∷◌, ◌++◌, length, slice_get, refl, sym, ap, ◌∙◌, subst, arith, append_assoc, length-append, cond, ◌⊎◌, inl, inr}
+use Rattle.std.proofs.Common.{◌≡◌, ℕ, zero, suc, ◌+◌, ◌≤◌, ◌<◌, get_or, map, Bool, true, false, Option, Some, None, List, [], ◌∷◌, ◌++◌, length, slice_get, refl, sym, ap, ◌∙◌, subst, arith, append_assoc, length-append, cond}
 use Rattle.std.proofs.lemmas.List.{append-nil}
 use Rattle.std.proofs.lemmas.Option.{slice_get_read, slice_get-map}
-use Rattle.std.specs.Prelude.{Result, Ok, Err, option_map}
+use Rattle.std.specs.Prelude.{Err, option_map}
 use Rattle.pl_syntax.specs.Plain.{plain_stmt}
 use Rattle.pl_syntax.specs.declared.stmt.Stmt as stmt
 use Rattle.pl_walk.specs.declared.walk.WalkError.{WalkError}
 use Rattle.pl_walk.specs.declared.walk.WalkError.TheVariants as e
 use Rattle.pl_walk.specs.Says.{StatementSays, ListSays}
-use Rattle.std.specs.Prelude.{FitsSigned}
 use Rattle.std.specs.Str.{bytes_eq}
-use Rattle.pl_base.specs.Permission.{Permission, whole}
+use Rattle.pl_base.specs.Permission.{whole}
 use Rattle.pl_syntax.specs.declared.expr.Sort.{Sort}
 use Rattle.pl_syntax.specs.declared.expr.Sort.TheVariants.{I64, RefI64}
 use Rattle.pl_syntax.specs.Tree.{Name, Expr, Int, Var, CellExpr, Whole, Stmt, Load, Alloc, Free, Print}
 use Rattle.pl_syntax.specs.Sorts.{Scope, sort_of, IsInteger, IsCell, AreSorted}
 use Rattle.pl_walk.specs.declared.known.Term.{Term}
-use Rattle.pl_walk.specs.declared.known.Term.TheVariants.{Literal, Variable}
+use Rattle.pl_walk.specs.declared.known.Term.TheVariants.{Literal}
 use Rattle.pl_walk.specs.declared.walk.Duty.{Duty}
 use Rattle.pl_walk.specs.Terms.{Atom, Points, Block}
-use Rattle.pl_walk.specs.Rules.{Names, put, Known, start, term_of, next_of, with_variable, allocated, AllocRule, LoadRule, FreeRule, PrintRule}
-use Rattle.pl_walk.specs.Walk.{WalksLoad, WalksFree, WalksOver, Walks, Refuses, pos_of, Stops}
+use Rattle.pl_walk.specs.Rules.{Names, put, Known, start, term_of, next_of, AllocRule, LoadRule, FreeRule}
+use Rattle.pl_walk.specs.Walk.{WalksOver, Walks, Refuses, pos_of, Stops}
 use Rattle.pl_walk.specs.Ready.{IsPointer, IsPointerCell, IsLiteral, Ready}
 
 abbrev AgreesAt : Option Sort → Option Term → Type 0

@@ -1,6 +1,6 @@
 -- The text of atoms, with a ` ** ` before each, is that of the blocks that live.
-use Rattle.std.proofs.Common.{◌≡◌, ◌≢◌, ℕ, zero, suc, ◌+◌, ◌<◌, ◌≤◌, Option, Some, None, List, [], ◌∷◌, ◌++◌, length, slice_get, map, drop, refl, sym, ap, ◌∙◌, subst, arith, append_assoc, length-append}
-use Rattle.std.specs.Prelude.{pos, option_map}
+use Rattle.std.proofs.Common.{◌≡◌, ℕ, suc, ◌+◌, ◌<◌, ◌≤◌, Option, Some, None, List, [], ◌∷◌, ◌++◌, length, slice_get, drop, refl, sym, ap, ◌∙◌, subst, arith, append_assoc, length-append}
+use Rattle.std.specs.Prelude.{option_map}
 use Rattle.std.specs.List.{flat_map}
 use Rattle.std.proofs.lemmas.List.{append-nil}
 use Rattle.std.proofs.lemmas.Option.{slice_get-map}
@@ -9,9 +9,8 @@ use Rattle.std.specs.Fmt.{decimal}
 use Rattle.std.proofs.lemmas.Fmt.{decimal_digit}
 use Rattle.pl_syntax.specs.Tree.{Name}
 use Rattle.pl_walk.specs.declared.known.Term.{Term}
-use Rattle.pl_walk.specs.declared.known.Term.TheVariants.{Literal, Variable}
 use Rattle.pl_walk.specs.declared.known.Block as block
-use Rattle.pl_walk.specs.Terms.{Atom, Points, Block}
+use Rattle.pl_walk.specs.Terms.{Atom}
 use Rattle.pl_walk.specs.Walk.{name_or_nothing, term_text, atom_text, atoms_text}
 use Rattle.pl_walk.specs.Shown.{block_atoms, atoms_from}
 use Rattle.pl_walk.specs.Texts.{names_of, value_text, block_text, blocks_text, IsAtomsText}

@@ -1,9 +1,9 @@
 -- Annotated runs and good programs.
-use Rattle.std.specs.Prelude.{◌≡◌, ◌≢◌, ◌⊎◌, ◌<◌, ℕ, ℤ, Option, Some, None, List, [], ◌∷◌, length, slice_get}
-use Rattle.pl_syntax.specs.Tree.{CellExpr, Whole, Stmt, Load, Alloc, Free, Print, Fun}
+use Rattle.std.specs.Prelude.{◌≡◌, ◌≢◌, ◌⊎◌, ℕ, ℤ, Option, Some, None, List, [], ◌∷◌, length, slice_get}
+use Rattle.pl_syntax.specs.Tree.{Whole, Stmt, Load, Alloc, Free, Print, Fun}
 use Rattle.pl_syntax.specs.Values.{Value, Block, Vars}
 use Rattle.pl_syntax.specs.Resource.{Resource, Adds, Sums}
-use Rattle.pl_walk.specs.Machine.{resource_of, Event, Fault, Frame, Thread, State, Outcome, Moves, Stands, Faults, step, moved, start_of}
+use Rattle.pl_walk.specs.Machine.{resource_of, Event, Fault, Frame, Thread, State, Moves, Faults, step, moved, start_of}
 
 -- what an event touches: a cell that it reads, or a whole block that it frees
 pub data Touch : Type 0 where

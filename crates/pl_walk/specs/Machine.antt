@@ -1,9 +1,9 @@
 -- What a program does: its state, its events, and its runs as lists of threads.
-use Rattle.std.specs.Prelude.{◌≡◌, ℕ, ℤ, pos, Option, Some, None, Bool, true, false, List, [], ◌∷◌, ◌++◌, length, slice_get, set}
+use Rattle.std.specs.Prelude.{ℕ, ℤ, pos, Option, Some, None, Bool, true, false, List, [], ◌∷◌, ◌++◌, length, slice_get, set}
 use Rattle.pl_base.specs.Permission.{whole}
-use Rattle.pl_syntax.specs.Tree.{Name, Expr, CellExpr, Whole, Stmt, Load, Alloc, Free, Print, Fun}
-use Rattle.pl_syntax.specs.Values.{Value, Number, Truth, Null, Block, Vars, no_vars, bind, value_of}
-use Rattle.pl_syntax.specs.Resource.{Mark, Plain, Atomic, Place, Cell, FreeToken, Share, Resource}
+use Rattle.pl_syntax.specs.Tree.{Name, Whole, Stmt, Load, Alloc, Free, Print, Fun}
+use Rattle.pl_syntax.specs.Values.{Value, Number, Null, Block, Vars, no_vars, bind, value_of}
+use Rattle.pl_syntax.specs.Resource.{Mark, Plain, Atomic, Cell, FreeToken, Share, Resource}
 
 -- a live block: whether its cells are atomic, and its elements, each a list of its fields
 pub record HeapBlock : Type 0 where

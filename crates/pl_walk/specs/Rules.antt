@@ -1,8 +1,8 @@
 -- Derivations: what the checker knows before and after a statement, where each atom that is taken is given.
-use Rattle.std.specs.Prelude.{◌≡◌, ℕ, pos, Option, Some, None, List, [], ◌∷◌, ◌++◌, length, if◌then◌else◌}
+use Rattle.std.specs.Prelude.{◌≡◌, pos, Option, Some, None, List, [], ◌∷◌, ◌++◌, length, if◌then◌else◌}
 use Rattle.std.specs.Str.{bytes_eq}
 use Rattle.pl_base.specs.Permission.{Permission, whole}
-use Rattle.pl_syntax.specs.Tree.{Name, Expr, Int, Var, CellExpr, Whole, Stmt, Load, Alloc, Free, Print, Fun}
+use Rattle.pl_syntax.specs.Tree.{Name, Expr, Int, Var, Whole, Stmt, Load, Alloc, Free, Print, Fun}
 use Rattle.pl_walk.specs.declared.known.Term.{Term}
 use Rattle.pl_walk.specs.declared.known.Term.TheVariants.{Literal, Variable}
 use Rattle.pl_walk.specs.Terms.{Atom, Points, Block}

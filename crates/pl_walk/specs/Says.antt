@@ -3,7 +3,7 @@ use Rattle.std.specs.Prelude.{◌≡◌, ◌≢◌, [], List, Result, Ok, Err}
 use Rattle.pl_base.specs.declared.pos.Pos.{Pos}
 use Rattle.pl_syntax.specs.Tree.{Stmt, Fun}
 use Rattle.pl_walk.specs.declared.known.Known as known
-use Rattle.pl_walk.specs.declared.walk.Duty.TheVariants.{Missing, Leftover}
+use Rattle.pl_walk.specs.declared.walk.Duty.TheVariants.{Leftover}
 use Rattle.pl_walk.specs.declared.walk.WalkError.{WalkError}
 use Rattle.pl_walk.specs.declared.walk.WalkError.TheVariants as e
 use Rattle.pl_walk.specs.Rules.{Known, start}

@@ -1,5 +1,5 @@
 -- What the checker knows of values: terms over numbered variables, and atoms of terms.
-use Rattle.std.specs.Prelude.{◌≡◌, ℕ, Option, Some, None, List, [], ◌∷◌, pos}
+use Rattle.std.specs.Prelude.{ℕ, Option, Some, List, [], ◌∷◌}
 use Rattle.pl_base.specs.Permission.{Permission}
 use Rattle.pl_syntax.specs.Values.{Value, Number}
 use Rattle.pl_syntax.specs.Resource.{Resource, Adds, IsEmpty}

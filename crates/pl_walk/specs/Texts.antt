@@ -1,5 +1,5 @@
 -- The text of the blocks that live.
-use Rattle.std.specs.Prelude.{◌≡◌, ◌≢◌, ℕ, List, [], ◌∷◌, ◌++◌, Option, Some, None, map}
+use Rattle.std.specs.Prelude.{◌≡◌, ◌≢◌, ℕ, List, [], ◌++◌, Option, Some, None, map}
 use Rattle.std.specs.List.{flat_map}
 use lib.Chars.{codes}
 use Rattle.pl_syntax.specs.Tree.{Name}

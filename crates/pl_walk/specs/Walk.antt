@@ -1,16 +1,16 @@
 -- The walk: each statement takes the first atom that fits, and the first duty that is left undone.
-use Rattle.std.specs.Prelude.{◌≡◌, ◌≢◌, ◌⊎◌, ℕ, Option, Some, None, List, [], ◌∷◌, ◌++◌, map, slice_get, All}
+use Rattle.std.specs.Prelude.{◌≡◌, ◌≢◌, ◌⊎◌, ℕ, Option, Some, None, List, [], ◌∷◌, ◌++◌, slice_get, All}
 use Rattle.std.specs.Fmt.{signed_decimal}
 use lib.Chars.{codes}
 use Rattle.pl_base.specs.declared.pos.Pos.{Pos}
-use Rattle.pl_base.specs.Permission.{Permission, whole}
-use Rattle.pl_syntax.specs.Tree.{Name, Expr, CellExpr, Whole, Stmt, Load, Alloc, Free, Print, Fun}
+use Rattle.pl_base.specs.Permission.{whole}
+use Rattle.pl_syntax.specs.Tree.{Name, Whole, Stmt, Load, Alloc, Free, Print, Fun}
 use Rattle.pl_walk.specs.declared.known.Term.{Term}
 use Rattle.pl_walk.specs.declared.known.Term.TheVariants.{Literal, Variable}
 use Rattle.pl_walk.specs.declared.walk.Duty.{Duty}
 use Rattle.pl_walk.specs.declared.walk.Duty.TheVariants.{Missing, Leftover}
 use Rattle.pl_walk.specs.Terms.{Atom, Points, Block}
-use Rattle.pl_walk.specs.Rules.{Known, start, term_of, next_of, with_variable, put, AllocRule, LoadRule, FreeRule, PrintRule}
+use Rattle.pl_walk.specs.Rules.{Known, start, AllocRule, LoadRule, FreeRule, PrintRule}
 
 -- an atom is a points-to of that cell with any permission
 abbrev pub PointsTo : Term → Atom → Type 0

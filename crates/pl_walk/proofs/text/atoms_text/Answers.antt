@@ -1,6 +1,5 @@
-use Rattle.std.proofs.Common.{◌≡◌, ◌≤◌, ◌-◌, List, ℕ, length, drop, take, ◌∙◌, sym, arith, length-drop}
+use Rattle.std.proofs.Common.{◌≡◌, ◌-◌, length, drop, take, ◌∙◌, arith, length-drop}
 use Rattle.std.proofs.lemmas.List.{take_all}
-use Rattle.pl_walk.specs.Texts.{blocks_text}
 use Rattle.pl_walk.proofs.TextLaws.{some_text, no_text}
 use Rattle.pl_walk.proofs.text.atoms_text.Goals as goal
 

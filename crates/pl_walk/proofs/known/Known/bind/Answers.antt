@@ -1,9 +1,9 @@
-use Rattle.std.proofs.Common.{◌≡◌, ◌∙◌, sym, ap, List, ℕ, Some, map, cond, subst}
+use Rattle.std.proofs.Common.{◌≡◌, ap, List, ℕ, Some, map, cond, subst}
 use Rattle.std.specs.HashMap.{get_by}
 use Rattle.std.specs.Str.{bytes_eq}
 use Rattle.std.proofs.lemmas.Map.Text.{hash_map_updates_str}
 use Rattle.pl_walk.specs.declared.known.Block.{Block}
-use Rattle.pl_walk.specs.Rules.{Names, put}
+use Rattle.pl_walk.specs.Rules.{Names}
 use Rattle.pl_walk.specs.Shown.{atoms_from}
 use Rattle.pl_walk.proofs.BlockLaws.{made}
 use Rattle.pl_walk.proofs.NameLaws.{put_is}
