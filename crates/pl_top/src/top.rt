@@ -1,11 +1,11 @@
 // The top call.
-ghost use Rattle.std.specs.Prelude.{◌≡◌, ◌≢◌, IfOk, OnErr, map, string_bytes};
+ghost use Rattle.std.specs.Prelude.{◌≡◌, ◌≢◌, Ok, Err, IfOk, OnErr, map, string_bytes};
 ghost use Rattle.std.specs.Io.KnownBytes.{Appends};
 ghost use Rattle.pl_base.specs.Outside.{Counts};
-ghost use Rattle.pl_top.specs.Telling.{HasCauses, AppendsPart, is_in, is_out};
+ghost use Rattle.pl_top.specs.Telling.{HasCauses, is_in, is_out};
 ghost use Rattle.pl_top.specs.Words.{command_of, asked_of};
 ghost use Rattle.pl_top.specs.Lines.{usage_line};
-ghost use Rattle.pl_top.specs.Calls.{Answered, WroteNoMore, Promised};
+ghost use Rattle.pl_top.specs.Calls.{Answered, WrotePart, IsLineOf, Promised};
 
 use crate::fetch::{Fault, take_file, write_text};
 use crate::judge::judge;
@@ -21,8 +21,8 @@ const MOST: u64 = 1_048_576;
 
 // Answers a command, or says what stopped it.
 fn answer<H: Host>(alloc: Global, command: &Command, host: &mut H) -> Result<u8, Fault>
-    ensures answered { IfOk result (λ s. Answered (asked_of command.now) (H.files host.old) (H.files host.new) (H.out host.old) (H.out host.new) s) }
-    ensures part { OnErr result (WroteNoMore (asked_of command.now) (H.files host.old) (H.out host.old) (H.out host.new)) }
+    ensures answered { IfOk result (λ s. Answered (asked_of command.now) (H.files host.old) (H.out host.old) (H.out host.new) s) }
+    ensures part { OnErr result (WrotePart (IsLineOf (Ok (asked_of command.now)) (H.files host.old)) (H.out host.old) (H.out host.new)) }
     ensures kept { H.files host.new ≡ H.files host.old }
     ensures in_faults { Counts (is_in result) (H.in_faults host.old) (H.in_faults host.new) }
     ensures out_faults { Counts (is_out result) (H.out_faults host.old) (H.out_faults host.new) }
@@ -45,7 +45,9 @@ pub fn check_command<R: Threads + Sync, H: Host, G: Gate>(
     host: &mut H,
     _gate: &G,
 ) -> Result<u8, Memory>
-    ensures answered { IfOk result (λ s. s ≢ 4 → s ≢ 5 → Answered (asked_of command.now) (H.files host.old) (H.files host.new) (H.out host.old) (H.out host.new) s) }
+    ensures answered { IfOk result (λ s. s ≢ 4 → s ≢ 5 → Answered (asked_of command.now) (H.files host.old) (H.out host.old) (H.out host.new) s) }
+    ensures part { WrotePart (IsLineOf (Ok (asked_of command.now)) (H.files host.old)) (H.out host.old) (H.out host.new) }
+    ensures kept { H.files host.new ≡ H.files host.old }
     ensures causes { IfOk result (λ s. HasCauses s (H.in_faults host.old) (H.in_faults host.new) (H.out_faults host.old) (H.out_faults host.new)) }
     ensures memory { OnErr result ((H.in_faults host.new ≡ H.in_faults host.old) × (H.out_faults host.new ≡ H.out_faults host.old)) }
 {
@@ -59,7 +61,9 @@ pub fn check_command<R: Threads + Sync, H: Host, G: Gate>(
 
 // Says that the words are refused.
 fn refuse_words<H: Host>(alloc: Global, usage: Usage, host: &mut H) -> u8
-    ensures answered { result ≢ 4 → result ≢ 5 → result ≢ 6 → (result ≡ 2) × (H.files host.new ≡ H.files host.old) × Appends (H.out host.old) (H.out host.new) (usage_line usage) }
+    ensures answered { result ≢ 4 → result ≢ 5 → result ≢ 6 → (result ≡ 2) × Appends (H.out host.old) (H.out host.new) (usage_line usage) }
+    ensures part { WrotePart (IsLineOf (Err usage) (H.files host.old)) (H.out host.old) (H.out host.new) }
+    ensures kept { H.files host.new ≡ H.files host.old }
     ensures causes { HasCauses result (H.in_faults host.old) (H.in_faults host.new) (H.out_faults host.old) (H.out_faults host.new) }
 {
     let Ok(line) = lines::usage_line(alloc, usage) else {
@@ -92,7 +96,9 @@ pub fn pulse_main<R: Threads + Wait + Sync, H: Host, G: Gate>(
     host: &mut H,
     gate: &G,
 ) -> u8
-    ensures answered { result ≢ 4 → result ≢ 5 → result ≢ 6 → Promised (command_of (map string_bytes words.now)) (H.files host.old) (H.files host.new) (H.out host.old) (H.out host.new) result }
+    ensures answered { result ≢ 4 → result ≢ 5 → result ≢ 6 → Promised (command_of (map string_bytes words.now)) (H.files host.old) (H.out host.old) (H.out host.new) result }
+    ensures part { WrotePart (IsLineOf (command_of (map string_bytes words.now)) (H.files host.old)) (H.out host.old) (H.out host.new) }
+    ensures kept { H.files host.new ≡ H.files host.old }
     ensures causes { HasCauses result (H.in_faults host.old) (H.in_faults host.new) (H.out_faults host.old) (H.out_faults host.new) }
 {
     match read_words(alloc, words) {

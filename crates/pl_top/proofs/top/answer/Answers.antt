@@ -11,5 +11,5 @@ returns-in_err-write_text-clause-part g c =
     let answer = c.in_ok-answer.answer in
     let P : Option (List ℕ) → Type 0 = λ out. AppendsPart out (g.H.Host.out c.write_text.new.host) answer.text.items in
     let Q : List ℕ → Type 0 = λ text. AppendsPart (g.H.Host.out c.take_file.new.host) (g.H.Host.out c.write_text.new.host) text in
-    on_err_from _ _ (beginning answer.status answer.text.items record { given = given_by file.file; takes = rw (← c.source.ensures) file.ensures.takes; judged = c.in_ok-answer.ensures }
+    on_err_from _ _ (beginning answer.text.items (answer.status, record { given = given_by file.file; takes = rw (← c.source.ensures) file.ensures.takes; judged = c.in_ok-answer.ensures })
     (subst P file.ensures.same.2 (subst Q c.as_slice.ensures.value c.in_err-write_text.ensures.part)))
