@@ -1,0 +1,4 @@
+pub mod Faults
+pub mod GhostHeap
+pub mod Heap
+pub mod LockTable
