@@ -1,2 +1,3 @@
+pub mod Cut
 pub mod Filled
 pub mod Swapped

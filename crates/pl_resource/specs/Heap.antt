@@ -1,6 +1,5 @@
 -- The blocks of a heap, and what each use of them answers.
-use Rattle.std.specs.Prelude.{◌≡◌, ℕ, ℤ, ◌+◌, ◌-◌, ◌*◌, ◌^◌, ◌<◌, ◌≤◌, Bool, true, false, ◌&&◌, not, if◌then◌else◌, nat_lt, List, [], Option, Some, None, Result, Ok, Err, length, slice_get, slice_set}
-use Rattle.std.specs.List.{repeat}
+use Rattle.std.specs.Prelude.{◌≡◌, ℕ, ℤ, ◌-◌, ◌^◌, ◌<◌, ◌≤◌, Bool, true, false, not, if◌then◌else◌, List, [], Option, Some, None, Result, Ok, Err, replicate, slice_get, slice_index_or, slice_set}
 use Rattle.std.specs.Ordering.{int_eq}
 use Rattle.pl_resource.specs.Faults.{chain}
 use Rattle.pl_resource.specs.declared.value.Value.{Value}
@@ -9,18 +8,19 @@ use Rattle.pl_resource.specs.declared.value.Cell.{Cell}
 use Rattle.pl_resource.specs.declared.value.Fault.{Fault}
 use Rattle.pl_resource.specs.declared.value.Fault.TheVariants.{Dead, Outside, Kind}
 
--- a block of `count` elements with `fields` cells each: an array has one field, and a struct one element.
--- The values stand element by element, and in each field by field. A block that was freed has none
+-- a block that is alive: whether its cells are atomic, and its elements, each the list of its fields.
+-- An array has elements of one field, and a struct is one element
 pub record Block : Type 0 where
   pub atomic : Bool
-  pub alive : Bool
-  pub fields : ℕ
-  pub count : ℕ
-  pub values : List Value
+  pub elements : List (List Value)
 
--- a heap: its blocks by number, and the fields and the count of the next block where there is room for it
+-- the blocks that were made, by their numbers; none where one was freed
+abbrev pub Blocks : Type 0
+Blocks = List (Option Block)
+
+-- a heap: its blocks, and the fields and the count of elements of the next block where there is room for it
 pub record Store : Type 0 where
-  pub blocks : List Block
+  pub blocks : Blocks
   pub room : Option (ℕ × ℕ)
 
 -- how many fields an element may have
@@ -37,33 +37,34 @@ HasRoom room fields count = room ≡ Some (fields, count)
 
 -- a new block: each element has these first values
 abbrev pub made : Bool → List Value → ℕ → Block
-made atomic first count = record { atomic = atomic; alive = true; fields = length first; count = count; values = repeat count first }
+made atomic first count = record { atomic = atomic; elements = replicate count first }
 
--- a block that is alive: `Dead` where it was never made or was freed
-abbrev pub if_alive : Option Block → Result Block Fault
+-- a block that is alive: else `Dead`, since it was never made or was freed
+abbrev pub if_alive : Option (Option Block) → Result Block Fault
 if_alive None = Err Dead
-if_alive (Some block) = if block.alive then Ok block else Err Dead
+if_alive (Some None) = Err Dead
+if_alive (Some (Some block)) = Ok block
 
--- the block of that number, where it is alive
-abbrev pub live : List Block → ℕ → Result Block Fault
-live blocks number = if_alive (slice_get blocks number)
-
--- the place of a cell among the values of its block
-abbrev pub place_of : Block → Cell → ℕ
-place_of block cell = cell.index * block.fields + cell.field
-
--- whether the block has that index and that field
-abbrev pub has_cell : Block → Cell → Bool
-has_cell block cell = nat_lt cell.index block.count && nat_lt cell.field block.fields
+-- the block of that number
+abbrev pub block_of : Blocks → ℕ → Result Block Fault
+block_of blocks number = if_alive (slice_get blocks number)
 
 -- a value that is there: else `Outside`
 abbrev pub if_there : Option Value → Result Value Fault
 if_there None = Err Outside
-if_there (Some value) = Ok value
+if_there (Some held) = Ok held
 
--- the value of a cell of the block: `Outside` where its index or field isn't there
+-- the element of that index; one that isn't there has no field
+abbrev pub element_of : Block → ℕ → List Value
+element_of block index = slice_index_or block.elements index []
+
+-- the value of a cell of the block: its index and then its field must be there
 abbrev pub value_of : Block → Cell → Result Value Fault
-value_of block cell = if has_cell block cell then if_there (slice_get block.values (place_of block cell)) else Err Outside
+value_of block cell = if_there (slice_get (element_of block cell.index) cell.field)
+
+-- the block with another value in that cell
+abbrev pub put_in : Block → Cell → Value → Block
+put_in block cell new = record block { elements = slice_set block.elements cell.index (slice_set (element_of block cell.index) cell.field new) }
 
 -- whether two marks are the same
 abbrev pub same_mark : Bool → Bool → Bool
@@ -85,10 +86,6 @@ same_kind _ _ = false
 abbrev pub load_in : Block → Cell → Bool → Result Value Fault
 load_in block cell atomic = chain (value_of block cell) (λ held. if same_mark block.atomic atomic then Ok held else Err Kind)
 
--- the block with another value in a cell
-abbrev pub put_in : Block → Cell → Value → Block
-put_in block cell new = record block { values = slice_set block.values (place_of block cell) new }
-
 -- a store into a block: the block after it, and `Kind` too where the new value is of another kind
 abbrev pub store_in : Block → Cell → Bool → Value → Result Block Fault
 store_in block cell atomic new = chain (load_in block cell atomic) (λ held. if same_kind held new then Ok (put_in block cell new) else Err Kind)
@@ -103,24 +100,20 @@ abbrev pub cas_in : Block → Cell → ℤ → ℤ → Result (ℤ × Bool × Bl
 cas_in block cell old new = chain (load_in block cell true) (λ held. swap_in block cell held old new)
 
 -- a load: the value of the cell
-abbrev pub load_of : List Block → Cell → Bool → Result Value Fault
-load_of blocks cell atomic = chain (live blocks cell.block) (λ block. load_in block cell atomic)
+abbrev pub load_of : Blocks → Cell → Bool → Result Value Fault
+load_of blocks cell atomic = chain (block_of blocks cell.block) (λ block. load_in block cell atomic)
 
 -- a store: the blocks after it
-abbrev pub store_of : List Block → Cell → Bool → Value → Result (List Block) Fault
-store_of blocks cell atomic new = chain (live blocks cell.block) (λ block. chain (store_in block cell atomic new) (λ after. Ok (slice_set blocks cell.block after)))
+abbrev pub store_of : Blocks → Cell → Bool → Value → Result Blocks Fault
+store_of blocks cell atomic new = chain (block_of blocks cell.block) (λ block. chain (store_in block cell atomic new) (λ after. Ok (slice_set blocks cell.block (Some after))))
 
 -- a compare-and-swap: the number seen, whether it was the old one, and the blocks after it
-abbrev pub cas_of : List Block → Cell → ℤ → ℤ → Result (ℤ × Bool × List Block) Fault
-cas_of blocks cell old new = chain (live blocks cell.block) (λ block. chain (cas_in block cell old new) (λ swap. Ok (swap.0, swap.1, slice_set blocks cell.block swap.2)))
-
--- a block once it is freed
-abbrev pub freed : Block → Block
-freed block = record block { alive = false; values = [] }
+abbrev pub cas_of : Blocks → Cell → ℤ → ℤ → Result (ℤ × Bool × Blocks) Fault
+cas_of blocks cell old new = chain (block_of blocks cell.block) (λ block. chain (cas_in block cell old new) (λ swap. Ok (swap.0, swap.1, slice_set blocks cell.block (Some swap.2))))
 
 -- a free: the blocks after it
-abbrev pub free_of : List Block → ℕ → Result (List Block) Fault
-free_of blocks number = chain (live blocks number) (λ block. Ok (slice_set blocks number (freed block)))
+abbrev pub free_of : Blocks → ℕ → Result Blocks Fault
+free_of blocks number = chain (block_of blocks number) (λ block. Ok (slice_set blocks number None))
 
 -- what a compare-and-swap leaves: its fault, or else its answer and what is there after it
 abbrev pub swap_leaves : {A : Type 0} → Result (ℤ × Bool) Fault → A → Result (ℤ × Bool × A) Fault

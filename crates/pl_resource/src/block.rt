@@ -1,56 +1,59 @@
-ghost use Rattle.std.specs.Prelude.{◌≡◌, OnErr, true};
+ghost use Rattle.std.specs.Prelude.{◌≡◌, ◌*◌, ◌<◌, ◌≤◌, ◌^◌, [], OnErr, IfSome, IfNone, length, vec_len, vec_capacity};
+ghost use Rattle.std.specs.List.{repeat};
 ghost use Rattle.pl_resource.specs.Faults.{leaves};
-ghost use Rattle.pl_resource.specs.Heap.{place_of, value_of, load_in, put_in, store_in, cas_in, swap_leaves, freed};
+ghost use Rattle.pl_resource.specs.Heap.{made, value_of, put_in, load_in, store_in, cas_in, swap_leaves};
+ghost use Rattle.pl_resource.specs.Pieces.{IsPlace, HasNoPlace};
 
 use crate::value::{Cell, Fault, Value};
-use std::alloc::Global;
 use std::marker::Model;
 
-/// A block of `count` elements with `fields` cells each.
+/// A block that is alive, of `count` elements with `fields` cells each. Its values stand element by element.
 #[derive(Drop)]
 pub(crate) struct Block {
     atomic: bool,
-    alive: bool,
     fields: u32,
     count: u32,
     values: Vec<Value>,
 }
 
 impl Model for Block {
+    ghost use Rattle.std.specs.Prelude.{◌≡◌, ◌*◌, length};
     ghost use Rattle.pl_resource.specs.Heap.{Block};
+    ghost use Rattle.pl_resource.specs.Pieces.{pieces};
 
     ghost Value = { Block };
 
-    ghost view = { λ b. record { atomic = b.atomic; alive = b.alive; fields = b.fields; count = b.count; values = b.values.items } };
+    ghost view = { λ b. record { atomic = b.atomic; elements = pieces b.fields b.count b.values.items } };
+
+    ghost invariant = { λ b. length b.values.items ≡ b.count * b.fields };
 }
 
 impl Block {
-    pub(crate) fn of(atomic: bool, fields: u32, count: u32, values: Vec<Value>) -> Block
-        ensures { result ≡ record { atomic = atomic; alive = true; fields = fields; count = count; values = values.items } }
+    // A block whose values come into the empty `room`.
+    pub(crate) fn new(atomic: bool, first: &[Value], count: u32, room: Vec<Value>) -> Block
+        requires few { length first.now < 2 ^ 32 }
+        requires empty { (vec_len room ≡ 0) × (room.items ≡ []) }
+        requires enough { length first.now * count ≤ vec_capacity room }
+        ensures { result ≡ made atomic first.now count }
     {
+        let fields = first.len() as u32;
+        let values = fill(room, first, count);
         Block {
             atomic,
-            alive: true,
             fields,
             count,
             values,
         }
     }
 
-    pub(crate) fn is_alive(&self) -> bool
-        ensures { result ≡ self.now.alive }
-    {
-        self.alive
-    }
-
     pub(crate) fn load(&self, cell: Cell, atomic: bool) -> Result<Value, Fault>
         ensures { result ≡ load_in self.now cell atomic }
     {
-        let value = self.value(cell)?;
+        let held = self.value(cell)?;
         if self.atomic != atomic {
             return Err(Fault::Kind);
         }
-        Ok(value)
+        Ok(held)
     }
 
     pub(crate) fn store(&mut self, cell: Cell, atomic: bool, value: Value) -> Result<(), Fault>
@@ -79,39 +82,49 @@ impl Block {
         Ok((seen, true))
     }
 
-    // Gives back the memory of the values.
-    pub(crate) fn free(&mut self, alloc: Global)
-        ensures { self.new ≡ freed self.old }
-    {
-        self.alive = false;
-        self.values = Vec::new(alloc);
-    }
-
-    fn place(&self, cell: Cell) -> usize
-        ensures { result ≡ place_of self.now cell }
-    {
-        cell.index as usize * self.fields as usize + cell.field as usize
-    }
-
     fn value(&self, cell: Cell) -> Result<Value, Fault>
         ensures { result ≡ value_of self.now cell }
     {
-        if cell.index >= self.count || cell.field >= self.fields {
-            return Err(Fault::Outside);
-        }
-        match self.values.get(self.place(cell)) {
-            Some(value) => Ok(*value),
+        match place(cell, self.fields, self.count) {
+            Some(place) => Ok(self.values[place]),
             None => Err(Fault::Outside),
         }
     }
 
-    // Nothing is put where there is no such place.
+    // Nothing is put where there is no such cell.
     fn put(&mut self, cell: Cell, value: Value)
         ensures { self.new ≡ put_in self.old cell value }
     {
-        let place = self.place(cell);
-        if place < self.values.len() {
+        if let Some(place) = place(cell, self.fields, self.count) {
             self.values[place] = value;
         }
     }
+}
+
+// Where the cell of a block stands among the block's values.
+fn place(cell: Cell, fields: u32, count: u32) -> Option<usize>
+    ensures found { IfSome result (λ place. IsPlace fields count cell.index cell.field place) }
+    ensures missing { IfNone result (HasNoPlace fields count cell.index cell.field) }
+{
+    if cell.index < count && cell.field < fields {
+        Some(cell.index as usize * fields as usize + cell.field as usize)
+    } else {
+        None
+    }
+}
+
+// The first values, once for each element.
+#[tactic(auto, using(crate::proofs::Filled::repeat_one_more))]
+fn fill(mut values: Vec<Value>, first: &[Value], count: u32) -> Vec<Value>
+    requires empty { (vec_len values ≡ 0) × (values.items ≡ []) }
+    requires enough { length first.now * count ≤ vec_capacity values }
+    ensures items { result.items ≡ repeat count first.now }
+    ensures len { vec_len result ≡ count * length first.now }
+{
+    for _element in 0..count {
+        if values.extend_from_slice(first).is_err() {
+            unreachable!();
+        }
+    }
+    values
 }

@@ -1,5 +1,4 @@
-ghost use Rattle.std.specs.Prelude.{◌≡◌, ◌<◌, ◌≤◌, ◌-◌, ◌*◌, ◌^◌, [], ◌∷◌, ◌++◌, None, Some, IfOk, OnOk, OnErr, IsOk, length, vec_len, vec_capacity};
-ghost use Rattle.std.specs.List.{repeat};
+ghost use Rattle.std.specs.Prelude.{◌≡◌, ◌<◌, ◌-◌, ◌^◌, [], ◌∷◌, ◌++◌, None, Some, IfOk, OnOk, OnErr, IsOk, length};
 ghost use Rattle.pl_resource.specs.Faults.{leaves};
 ghost use Rattle.pl_resource.specs.Heap.{IsFields, IsCount, HasRoom, made, load_of, store_of, cas_of, free_of, swap_leaves};
 
@@ -14,7 +13,7 @@ use std::mem;
 #[derive(Drop)]
 pub struct Heap {
     alloc: Global,
-    blocks: Vec<Block>,
+    blocks: Vec<Option<Block>>,
     // empty: the values of the next block come into it
     spare: Vec<Value>,
     room: Option<(u32, u32)>,
@@ -72,7 +71,7 @@ impl Heap {
         requires fields { IsFields (length first.now) }
         requires count { IsCount count }
         ensures number { IfOk result (λ number. number ≡ length self.old.blocks) }
-        ensures block { OnOk result (self.new ≡ record { blocks = self.old.blocks ++ made atomic first.now count ∷ []; room = None }) }
+        ensures block { OnOk result (self.new ≡ record { blocks = self.old.blocks ++ Some (made atomic first.now count) ∷ []; room = None }) }
         ensures promised { HasRoom self.old.room (length first.now) count → IsOk result }
         ensures refused { OnErr result (self.new ≡ self.old) }
     {
@@ -80,9 +79,9 @@ impl Heap {
         self.room(fields, count)?;
         self.room = None;
         let spare = mem::replace(&mut self.spare, Vec::new(self.alloc));
-        let block = Block::of(atomic, fields, count, fill(spare, first, count));
+        let block = Block::new(atomic, first, count, spare);
         let number = self.blocks.len() as u32;
-        self.blocks.push_reserved(block);
+        self.blocks.push_reserved(Some(block));
         Ok(number)
     }
 
@@ -90,10 +89,10 @@ impl Heap {
     pub fn load(&self, cell: Cell, atomic: bool) -> Result<Value, Fault>
         ensures { result ≡ load_of self.now.blocks cell atomic }
     {
-        match self.blocks.get(cell.block as usize) {
-            Some(block) if block.is_alive() => block.load(cell, atomic),
-            _ => Err(Fault::Dead),
-        }
+        let Some(Some(block)) = self.blocks.get(cell.block as usize) else {
+            return Err(Fault::Dead);
+        };
+        block.load(cell, atomic)
     }
 
     pub fn store(&mut self, cell: Cell, atomic: bool, value: Value) -> Result<(), Fault>
@@ -101,12 +100,12 @@ impl Heap {
         ensures refused { OnErr result (self.new ≡ self.old) }
         ensures room { self.new.room ≡ self.old.room }
     {
-        let Some(block) = self.blocks.get_mut(cell.block as usize) else {
+        let Some(slot) = self.blocks.get_mut(cell.block as usize) else {
             return Err(Fault::Dead);
         };
-        if !block.is_alive() {
+        let Some(block) = slot else {
             return Err(Fault::Dead);
-        }
+        };
         block.store(cell, atomic, value)
     }
 
@@ -115,12 +114,12 @@ impl Heap {
         ensures refused { OnErr result (self.new ≡ self.old) }
         ensures room { self.new.room ≡ self.old.room }
     {
-        let Some(block) = self.blocks.get_mut(cell.block as usize) else {
+        let Some(slot) = self.blocks.get_mut(cell.block as usize) else {
             return Err(Fault::Dead);
         };
-        if !block.is_alive() {
+        let Some(block) = slot else {
             return Err(Fault::Dead);
-        }
+        };
         block.cas(cell, old, new)
     }
 
@@ -129,29 +128,13 @@ impl Heap {
         ensures refused { OnErr result (self.new ≡ self.old) }
         ensures room { self.new.room ≡ self.old.room }
     {
-        let alloc = self.alloc;
-        let Some(block) = self.blocks.get_mut(block as usize) else {
+        let Some(slot) = self.blocks.get_mut(block as usize) else {
             return Err(Fault::Dead);
         };
-        if !block.is_alive() {
+        if slot.is_none() {
             return Err(Fault::Dead);
         }
-        block.free(alloc);
+        *slot = None;
         Ok(())
     }
-}
-
-// The values of a block: the first ones, once for each element.
-#[tactic(auto, using(crate::proofs::Filled::repeat_one_more))]
-fn fill(mut values: Vec<Value>, first: &[Value], count: u32) -> Vec<Value>
-    requires empty { (vec_len values ≡ 0) × (values.items ≡ []) }
-    requires room { length first.now * count ≤ vec_capacity values }
-    ensures { result.items ≡ repeat count first.now }
-{
-    for _element in 0..count {
-        if values.extend_from_slice(first).is_err() {
-            unreachable!();
-        }
-    }
-    values
 }

@@ -1,6 +1,6 @@
 use Rattle.std.proofs.Common.{sym}
 use Rattle.pl_resource.proofs.Filled.{fits_one}
-use Rattle.pl_resource.proofs.heap.fill.Goals as goal
+use Rattle.pl_resource.proofs.block.fill.Goals as goal
 
 pub unreachable-requires : goal.unreachable-requires
 unreachable-requires c =
