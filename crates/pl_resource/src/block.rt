@@ -32,7 +32,7 @@ impl Block {
     // A block whose values come into the empty `room`.
     pub(crate) fn new(atomic: bool, first: &[Value], count: u32, room: Vec<Value>) -> Block
         requires few { length first.now < 2 ^ 32 }
-        requires empty { (vec_len room ≡ 0) × (room.items ≡ []) }
+        requires empty { room.items ≡ [] }
         requires enough { length first.now * count ≤ vec_capacity room }
         ensures { result ≡ made atomic first.now count }
     {
@@ -116,7 +116,7 @@ fn place(cell: Cell, fields: u32, count: u32) -> Option<usize>
 // The first values, once for each element.
 #[tactic(auto, using(crate::proofs::Filled::repeat_one_more))]
 fn fill(mut values: Vec<Value>, first: &[Value], count: u32) -> Vec<Value>
-    requires empty { (vec_len values ≡ 0) × (values.items ≡ []) }
+    requires empty { values.items ≡ [] }
     requires enough { length first.now * count ≤ vec_capacity values }
     ensures items { result.items ≡ repeat count first.now }
     ensures len { vec_len result ≡ count * length first.now }

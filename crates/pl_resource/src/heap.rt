@@ -9,13 +9,20 @@ use std::alloc::Global;
 use std::marker::Model;
 use std::mem;
 
-/// The blocks that were made, by their numbers, and room for the next one.
+/// The blocks that were made, by their numbers, and room for the next one. Numbers count from 0 in the order of
+/// making, and never come again.
+///
+/// A use of a cell faults `Dead` where the block isn't alive, since it was freed or never made (C11 6.2.4); else
+/// `Outside` where the block has no such index or field (C11 6.5.6); else `Kind` where the block is atomic and the
+/// use isn't, or the other way round, or the value is of another kind than the cell's (C11 6.5). Contracts see the
+/// list of blocks.
 #[derive(Drop)]
 pub struct Heap {
     alloc: Global,
     blocks: Vec<Option<Block>>,
     // empty: the values of the next block come into it
     spare: Vec<Value>,
+    // the fields and the count of that block, where there is room for it
     room: Option<(u32, u32)>,
 }
 
@@ -28,10 +35,15 @@ impl Model for Heap {
 
     ghost view = { λ h. record { blocks = h.blocks.items; room = h.room } };
 
-    ghost invariant = { λ h. record { empty : vec_len h.spare ≡ 0; bare : h.spare.items ≡ []; values : ForSome h.room (λ size. size.0 * size.1 ≤ vec_capacity h.spare); block : IsSome h.room → vec_len h.blocks < vec_capacity h.blocks } };
+    ghost invariant = { λ h. record {
+      empty : h.spare.items ≡ [];
+      values : ForSome h.room (λ size. size.0 * size.1 ≤ vec_capacity h.spare);
+      block : IsSome h.room → vec_len h.blocks < vec_capacity h.blocks;
+    } };
 }
 
 impl Heap {
+    /// No block. It takes no memory.
     pub fn new(alloc: Global) -> Heap
         ensures { result ≡ record { blocks = []; room = None } }
     {
@@ -43,8 +55,8 @@ impl Heap {
         }
     }
 
-    /// Makes room for one block of so many fields and elements. The next `make` of just that size
-    /// answers `Ok`, whatever calls other than `room` come between.
+    /// Makes room for one block of `count` elements, from 1 to 1,048,576, with `fields` cells each. The next `make`,
+    /// where it is of so many fields and that count, answers `Ok`, whatever calls other than `room` come between.
     pub fn room(&mut self, fields: u32, count: u32) -> Result<(), Memory>
         requires fields { IsFields fields }
         requires count { IsCount count }
@@ -64,8 +76,8 @@ impl Heap {
         Ok(())
     }
 
-    /// Makes a block of `count` elements, which all have these first values, one for each field, and
-    /// tells its number. Numbers count from 0 and never come again.
+    /// Makes a block of `count` elements, from 1 to 1,048,576, and tells its number. Each element has the values
+    /// `first`, one for each field. It wants memory only where there is no room for just such a block.
     pub fn make(&mut self, atomic: bool, first: &[Value], count: u32) -> Result<u32, Memory>
         requires few { length self.old.blocks < 2 ^ 32 - 1 }
         requires fields { IsFields (length first.now) }
@@ -85,7 +97,7 @@ impl Heap {
         Ok(number)
     }
 
-    /// The value of a cell.
+    /// The value of a cell, which is used as atomic or not.
     pub fn load(&self, cell: Cell, atomic: bool) -> Result<Value, Fault>
         ensures { result ≡ load_of self.now.blocks cell atomic }
     {
@@ -95,6 +107,7 @@ impl Heap {
         block.load(cell, atomic)
     }
 
+    /// Stores a value in a cell, which is used as atomic or not. A cell with a pointer takes null or a block.
     pub fn store(&mut self, cell: Cell, atomic: bool, value: Value) -> Result<(), Fault>
         ensures result { leaves result self.new.blocks ≡ store_of self.old.blocks cell atomic value }
         ensures refused { OnErr result (self.new ≡ self.old) }
@@ -109,6 +122,8 @@ impl Heap {
         block.store(cell, atomic, value)
     }
 
+    /// A compare-and-swap of a cell of an atomic block (C11 7.17.7.4): the number that it saw, and whether that was
+    /// `old`, so that `new` was stored. It faults `Kind` too where the cell holds no number.
     pub fn cas(&mut self, cell: Cell, old: i64, new: i64) -> Result<(i64, bool), Fault>
         ensures result { swap_leaves result self.new.blocks ≡ cas_of self.old.blocks cell old new }
         ensures refused { OnErr result (self.new ≡ self.old) }
@@ -123,6 +138,7 @@ impl Heap {
         block.cas(cell, old, new)
     }
 
+    /// Frees a block and gives back its memory (C11 7.22.3.3). It faults `Dead` exactly where the block isn't alive.
     pub fn free(&mut self, block: u32) -> Result<(), Fault>
         ensures result { leaves result self.new.blocks ≡ free_of self.old.blocks block }
         ensures refused { OnErr result (self.new ≡ self.old) }

@@ -13,3 +13,6 @@ pub use heap::Heap;
 pub use inv_table::InvTable;
 pub use lock_table::LockTable;
 pub use value::{Cell, Entry, Fault, GValue, Value};
+
+#[cfg(test)]
+mod tests;

@@ -9,7 +9,7 @@ use std::alloc::Global;
 use std::marker::Model;
 
 /// How a lock stands.
-#[derive(Clone, Copy, PartialEq, Eq, Debug)]
+#[derive(Clone, Copy)]
 pub(crate) enum Mark {
     Free,
     Held,
@@ -23,7 +23,8 @@ pub(crate) struct Lock {
     entry: Option<Entry>,
 }
 
-/// The locks that were made, by their numbers, and room for the next one.
+/// The locks that were made, by their numbers, and room for the next one. Numbers count from 0 in the order of
+/// making, and never come again. Contracts see the list of locks, each free, held or ended, with its entry.
 #[derive(Drop)]
 pub struct LockTable {
     locks: Vec<Lock>,
@@ -55,6 +56,7 @@ impl LockTable {
     /// Makes room for one lock. The next `push` answers `Ok`, whatever calls other than `room` come between.
     pub fn room(&mut self) -> Result<(), Memory>
         ensures ok { OnOk result (self.new ≡ record self.old { room = true }) }
+        ensures there_already { IsTrue self.old.room → IsOk result }
         ensures refused { OnErr result (self.new ≡ self.old) }
     {
         self.locks.reserve(1)?;
@@ -62,7 +64,7 @@ impl LockTable {
         Ok(())
     }
 
-    /// Makes a free lock and tells its number. Numbers count from 0 and never come again.
+    /// Makes a free lock and tells its number. It wants memory only where there is no room.
     pub fn push(&mut self, entry: Option<Entry>) -> Result<u32, Memory>
         requires { length self.old.locks < 2 ^ 32 - 1 }
         ensures number { IfOk result (λ number. number ≡ length self.old.locks) }
