@@ -1,5 +1,5 @@
 -- A list that is cut into pieces: what stands in a piece, and a piece with another item.
-use Rattle.std.proofs.Common.{◌≡◌, ℕ, zero, suc, ◌+◌, ◌*◌, ◌≤◌, ◌<◌, ◌⊎◌, inl, inr, Bool, true, false, nat_lt, List, [], ◌∷◌, ◌++◌, Some, None, length, take, drop, get_or, set, replicate, arith, refl, ap, sym, ◌∙◌}
+use Rattle.std.proofs.Common.{◌≡◌, ℕ, zero, suc, ◌+◌, ◌*◌, ◌≤◌, ◌<◌, inl, inr, List, [], ◌∷◌, Some, None, length, take, drop, get_or, set, replicate, arith, refl, ap, ◌∙◌}
 use Rattle.std.specs.Prelude.{slice_get}
 use Rattle.std.specs.List.{repeat}
 use Rattle.std.proofs.Math.Nat.{zero-mul, mul-le-mul_right}
@@ -15,7 +15,8 @@ module _ {A : Type 0} where
   length-pieces size (suc count) xs = ap suc (length-pieces size count (drop size xs))
 
   -- the piece of an index
-  pub piece_at : (size count : ℕ) (xs : List A) (i : ℕ) → i < count → get_or (pieces size count xs) i [] ≡ take size (drop (i * size) xs)
+  pub piece_at : (size count : ℕ) (xs : List A) (i : ℕ) → i < count
+      → get_or (pieces size count xs) i [] ≡ take size (drop (i * size) xs)
   piece_at size zero xs i below = absurd (omega (arith, below))
   piece_at size (suc count) xs zero below = rw zero-mul refl
   piece_at size (suc count) xs (suc i) below =
@@ -28,34 +29,46 @@ module _ {A : Type 0} where
   piece_small size (suc count) xs zero = rw length-take (omega arith)
   piece_small size (suc count) xs (suc i) = piece_small size count (drop size xs) i
 
-  pub value_there : (size count : ℕ) (xs : List A) (i j place : ℕ) (d : A) → length xs ≡ count * size → IsPlace size count i j place → slice_get (get_or (pieces size count xs) i []) j ≡ Some (get_or xs place d)
+  pub value_there : (size count : ℕ) (xs : List A) (i j place : ℕ) (d : A) → length xs ≡ count * size
+      → IsPlace size count i j place → slice_get (get_or (pieces size count xs) i []) j ≡ Some (get_or xs place d)
   value_there size count xs i j place d whole at =
       let most : (i + 1) * size ≤ count * size = mul-le-mul_right size (omega (arith, at.piece_there)) in
       let inside : j < length (take size (drop (i * size) xs)) = simp (length-take, length-drop) (omega (arith, most, whole, at.item_there)) in
-      rw (piece_at size count xs i at.piece_there, at.place_is) (slice_get-get_or (take size (drop (i * size) xs)) j d inside ∙ ap Some (get_or-take size (drop (i * size) xs) j d at.item_there ∙ get_or-drop (i * size) xs j d))
+      rw (piece_at size count xs i at.piece_there, at.place_is)
+      (slice_get-get_or (take size (drop (i * size) xs)) j d inside
+      ∙ ap Some (get_or-take size (drop (i * size) xs) j d at.item_there ∙ get_or-drop (i * size) xs j d))
 
-  pub value_missing : (size count : ℕ) (xs : List A) (i j : ℕ) → HasNoPlace size count i j → slice_get (get_or (pieces size count xs) i []) j ≡ None
+  pub value_missing : (size count : ℕ) (xs : List A) (i j : ℕ) → HasNoPlace size count i j
+      → slice_get (get_or (pieces size count xs) i []) j ≡ None
   value_missing size count xs i j (inl past) = rw (get_or_past (pieces size count xs) i [] (rw length-pieces past)) refl
-  value_missing size count xs i j (inr past) = slice_get_past (get_or (pieces size count xs) i []) j (omega (arith, piece_small size count xs i, past))
+  value_missing size count xs i j (inr past) =
+      slice_get_past (get_or (pieces size count xs) i []) j (omega (arith, piece_small size count xs i, past))
 
-  pub put_there : (size count : ℕ) (xs : List A) (i j : ℕ) (v : A) → i < count → j < size → pieces size count (set xs (i * size + j) v) ≡ set (pieces size count xs) i (set (get_or (pieces size count xs) i []) j v)
+  pub put_there : (size count : ℕ) (xs : List A) (i j : ℕ) (v : A) → i < count → j < size
+      → pieces size count (set xs (i * size + j) v) ≡ set (pieces size count xs) i (set (get_or (pieces size count xs) i []) j v)
   put_there size zero xs i j v below item = absurd (omega (arith, below))
   put_there size (suc count) xs zero j v below item =
       let at : zero * size + j ≡ j = omega arith in
       rw (at, take-set-lt size xs j v item, drop-set-lt size xs j v item) refl
   put_there size (suc count) xs (suc i) j v below item =
       let at : suc i * size + j ≡ size + (i * size + j) = omega arith in
-      rw (at, take-set-le size xs (size + (i * size + j)) v (omega arith), drop-set-add size xs (i * size + j) v) (ap (λ rest. take size xs ∷ rest) (put_there size count (drop size xs) i j v (omega (arith, below)) item))
+      rw (at, take-set-le size xs (size + (i * size + j)) v (omega arith), drop-set-add size xs (i * size + j) v)
+      (ap (λ rest. take size xs ∷ rest) (put_there size count (drop size xs) i j v (omega (arith, below)) item))
 
-  pub put_at : (size count : ℕ) (xs : List A) (i j place : ℕ) (v : A) → IsPlace size count i j place → pieces size count (set xs place v) ≡ set (pieces size count xs) i (set (get_or (pieces size count xs) i []) j v)
+  pub put_at : (size count : ℕ) (xs : List A) (i j place : ℕ) (v : A) → IsPlace size count i j place
+      → pieces size count (set xs place v) ≡ set (pieces size count xs) i (set (get_or (pieces size count xs) i []) j v)
   put_at size count xs i j place v at = rw at.place_is (put_there size count xs i j v at.piece_there at.item_there)
 
-  pub put_missing : (size count : ℕ) (xs : List A) (i j : ℕ) (v : A) → HasNoPlace size count i j → set (pieces size count xs) i (set (get_or (pieces size count xs) i []) j v) ≡ pieces size count xs
+  pub put_missing : (size count : ℕ) (xs : List A) (i j : ℕ) (v : A) → HasNoPlace size count i j
+      → set (pieces size count xs) i (set (get_or (pieces size count xs) i []) j v) ≡ pieces size count xs
   put_missing size count xs i j v (inl past) = set_past (pieces size count xs) i _ (rw length-pieces past)
   put_missing size count xs i j v (inr past) =
-      rw (set_past (get_or (pieces size count xs) i []) j v (omega (arith, piece_small size count xs i, past))) (set-get_or (pieces size count xs) i [])
+      rw (set_past (get_or (pieces size count xs) i []) j v (omega (arith, piece_small size count xs i, past)))
+      (set-get_or (pieces size count xs) i [])
 
   -- what is repeated is cut into copies
   pub pieces-repeat : (count : ℕ) (xs : List A) → pieces (length xs) count (repeat count xs) ≡ replicate count xs
   pieces-repeat zero xs = refl
-  pieces-repeat (suc count) xs = rw (take-append_seam xs (repeat count xs), drop-append_seam xs (repeat count xs)) (ap (λ rest. xs ∷ rest) (pieces-repeat count xs))
+  pieces-repeat (suc count) xs =
+      rw (take-append_seam xs (repeat count xs), drop-append_seam xs (repeat count xs))
+      (ap (λ rest. xs ∷ rest) (pieces-repeat count xs))

@@ -64,7 +64,8 @@ value_of block cell = if_there (slice_get (element_of block cell.index) cell.fie
 
 -- the block with another value in that cell
 abbrev pub put_in : Block → Cell → Value → Block
-put_in block cell new = record block { elements = slice_set block.elements cell.index (slice_set (element_of block cell.index) cell.field new) }
+put_in block cell new =
+    record block { elements = slice_set block.elements cell.index (slice_set (element_of block cell.index) cell.field new) }
 
 -- whether two marks are the same
 abbrev pub same_mark : Bool → Bool → Bool
@@ -84,15 +85,20 @@ same_kind _ _ = false
 
 -- a load from a block: after `Outside`, `Kind` where the block's mark is not that of the use
 abbrev pub load_in : Block → Cell → Bool → Result Value Fault
-load_in block cell atomic = chain (value_of block cell) (λ held. if same_mark block.atomic atomic then Ok held else Err Kind)
+load_in block cell atomic =
+    chain (value_of block cell) (λ held.
+    if same_mark block.atomic atomic then Ok held else Err Kind)
 
 -- a store into a block: the block after it, and `Kind` too where the new value is of another kind
 abbrev pub store_in : Block → Cell → Bool → Value → Result Block Fault
-store_in block cell atomic new = chain (load_in block cell atomic) (λ held. if same_kind held new then Ok (put_in block cell new) else Err Kind)
+store_in block cell atomic new =
+    chain (load_in block cell atomic) (λ held.
+    if same_kind held new then Ok (put_in block cell new) else Err Kind)
 
 -- a compare-and-swap of a cell that holds that value: the number seen, whether it was the old one, and the block after it
 abbrev pub swap_in : Block → Cell → Value → ℤ → ℤ → Result (ℤ × Bool × Block) Fault
-swap_in block cell (value.Int seen) old new = if int_eq seen old then Ok (seen, true, put_in block cell (value.Int new)) else Ok (seen, false, block)
+swap_in block cell (value.Int seen) old new =
+    if int_eq seen old then Ok (seen, true, put_in block cell (value.Int new)) else Ok (seen, false, block)
 swap_in block cell _ old new = Err Kind
 
 -- a compare-and-swap in a block, which is atomic and of numbers
@@ -105,11 +111,17 @@ load_of blocks cell atomic = chain (block_of blocks cell.block) (λ block. load_
 
 -- a store: the blocks after it
 abbrev pub store_of : Blocks → Cell → Bool → Value → Result Blocks Fault
-store_of blocks cell atomic new = chain (block_of blocks cell.block) (λ block. chain (store_in block cell atomic new) (λ after. Ok (slice_set blocks cell.block (Some after))))
+store_of blocks cell atomic new =
+    chain (block_of blocks cell.block) (λ block.
+    chain (store_in block cell atomic new) (λ after.
+    Ok (slice_set blocks cell.block (Some after))))
 
 -- a compare-and-swap: the number seen, whether it was the old one, and the blocks after it
 abbrev pub cas_of : Blocks → Cell → ℤ → ℤ → Result (ℤ × Bool × Blocks) Fault
-cas_of blocks cell old new = chain (block_of blocks cell.block) (λ block. chain (cas_in block cell old new) (λ swap. Ok (swap.0, swap.1, slice_set blocks cell.block (Some swap.2))))
+cas_of blocks cell old new =
+    chain (block_of blocks cell.block) (λ block.
+    chain (cas_in block cell old new) (λ swap.
+    Ok (swap.0, swap.1, slice_set blocks cell.block (Some swap.2))))
 
 -- a free: the blocks after it
 abbrev pub free_of : Blocks → ℕ → Result Blocks Fault

@@ -47,8 +47,13 @@ marked locks number lock mark = slice_set locks number (record lock { mark = mar
 
 -- an acquire (true) or a release (false): the locks after it
 abbrev pub set_of : List Lock → ℕ → Bool → Result (List Lock) Fault
-set_of locks number held = chain (usable locks number) (λ lock. chain (mark_after held lock.mark) (λ mark. Ok (marked locks number lock mark)))
+set_of locks number held =
+    chain (usable locks number) (λ lock.
+    chain (mark_after held lock.mark) (λ mark.
+    Ok (marked locks number lock mark)))
 
 -- the end of a lock, which somebody must hold: the locks after it
 abbrev pub end_of : List Lock → ℕ → Result (List Lock) Fault
-end_of locks number = chain (usable locks number) (λ lock. if is_free lock.mark then Err LockFree else Ok (marked locks number lock Ended))
+end_of locks number =
+    chain (usable locks number) (λ lock.
+    if is_free lock.mark then Err LockFree else Ok (marked locks number lock Ended))

@@ -83,7 +83,8 @@ impl Heap {
         requires fields { IsFields (length first.now) }
         requires count { IsCount count }
         ensures number { IfOk result (λ number. number ≡ length self.old.blocks) }
-        ensures block { OnOk result (self.new ≡ record { blocks = self.old.blocks ++ Some (made atomic first.now count) ∷ []; room = None }) }
+        ensures block { OnOk result (self.new.blocks ≡ self.old.blocks ++ Some (made atomic first.now count) ∷ []) }
+        ensures used { OnOk result (self.new.room ≡ None) }
         ensures promised { HasRoom self.old.room (length first.now) count → IsOk result }
         ensures refused { OnErr result (self.new ≡ self.old) }
     {

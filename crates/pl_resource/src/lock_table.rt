@@ -68,7 +68,8 @@ impl LockTable {
     pub fn push(&mut self, entry: Option<Entry>) -> Result<u32, Memory>
         requires { length self.old.locks < 2 ^ 32 - 1 }
         ensures number { IfOk result (λ number. number ≡ length self.old.locks) }
-        ensures lock { OnOk result (self.new ≡ record { locks = self.old.locks ++ record { mark = Free; entry = entry } ∷ []; room = false }) }
+        ensures lock { OnOk result (self.new.locks ≡ self.old.locks ++ record { mark = Free; entry = entry } ∷ []) }
+        ensures used { OnOk result (self.new.room ≡ false) }
         ensures promised { IsTrue self.old.room → IsOk result }
         ensures refused { OnErr result (self.new ≡ self.old) }
     {

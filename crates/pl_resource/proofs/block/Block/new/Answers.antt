@@ -1,4 +1,4 @@
-use Rattle.std.proofs.Common.{length, refl}
+use Rattle.std.proofs.Common.{refl}
 use Rattle.pl_resource.proofs.Cut.{pieces-repeat}
 use Rattle.pl_resource.proofs.block.Block.new.Goals as goal
 

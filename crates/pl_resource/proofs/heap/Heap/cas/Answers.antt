@@ -1,4 +1,4 @@
-use Rattle.std.proofs.Common.{to_z-of_z, ap, sym, ◌∙◌}
+use Rattle.std.proofs.Common.{to_z-of_z, ap}
 use Rattle.pl_resource.specs.Heap.{Store}
 use Rattle.pl_resource.proofs.Swapped.{block_read, cas_of_block}
 use Rattle.pl_resource.proofs.heap.Heap.cas.Goals as goal
