@@ -42,6 +42,9 @@ fn cells_of_arrays_and_structs(rt: HostRuntime) -> Result<(), Fail> {
         assert_eq!(rt; heap.load(at, atomic), want);
     }
     crosses(&heap);
+    crosses(&cell(0, 0, 0));
+    crosses(&Value::Null);
+    crosses(&Fault::Dead);
     Ok(())
 }
 
@@ -105,6 +108,7 @@ fn ghost_cells(rt: HostRuntime) -> Result<(), Fail> {
     assert_eq!(rt; ghosts.get(1), Ok(i128::MAX));
     assert_eq!(rt; ghosts.get(2), Err(Fault::GhostMissing));
     crosses(&ghosts);
+    crosses(&GValue::Int(0));
     Ok(())
 }
 
