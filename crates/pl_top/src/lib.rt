@@ -3,7 +3,9 @@
 
 mod fetch;
 mod judge;
+mod lexing;
 mod lines;
+mod parsing;
 mod reading;
 mod token;
 mod top;
