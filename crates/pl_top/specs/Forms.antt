@@ -10,6 +10,7 @@ use Rattle.pl_top.specs.declared.token.Kind.{Kind}
 use Rattle.pl_top.specs.declared.token.Kind.TheVariants.{Word, Number, Sign}
 use Rattle.pl_top.specs.declared.parsing.Stop.{Stop}
 use Rattle.pl_top.specs.declared.parsing.Stop.TheVariants as stop
+use Rattle.pl_top.specs.Spelling.{first_place, Spells}
 use Rattle.pl_top.specs.Grammar.{words, negative, sign, AreStatements, IsProgram}
 
 -- one step after the other
@@ -167,3 +168,15 @@ FailsProgram stop.Memory ks = Unit {0}
 abbrev pub ReadsProgram : {A : Type 0} → (A → Program) → Result A Stop → List Token → Type 0
 ReadsProgram view (Ok r) ks = IsProgram (view r) ks × ((p : Program) → IsProgram p ks → p ≡ view r)
 ReadsProgram view (Err s) ks = FailsProgram s ks
+
+-- ---- files
+
+-- the one program that tokens of these bytes derive, before the sort rules
+pub record IsParsed (bytes : List ℕ) (program : Program) : Type 0 where
+  pub tokens : List Token
+  pub spells : Spells tokens first_place bytes
+  pub derives : IsProgram program tokens
+  pub only : (p : Program) (ks : List Token) → Spells ks first_place bytes → IsProgram p ks → p ≡ program
+
+abbrev pub NotParsed : List ℕ → Type 0
+NotParsed bytes = (p : Program) (ks : List Token) → Spells ks first_place bytes → IsProgram p ks → ⊥

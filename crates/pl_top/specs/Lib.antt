@@ -8,3 +8,4 @@ pub mod Judging
 pub mod Calls
 pub mod Leads
 pub mod Forms
+pub mod Scopes

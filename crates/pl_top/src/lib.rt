@@ -7,6 +7,7 @@ mod lexing;
 mod lines;
 mod parsing;
 mod reading;
+mod sorting;
 mod token;
 mod top;
 mod words;
