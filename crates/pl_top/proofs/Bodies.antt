@@ -103,21 +103,22 @@ body_ends ks list rest close e g =
           );
     }
   where
-  place_of_sign : (p close : Pos) → sign close 125 ∷ [] ≡ sign p 125 ∷ [] → p ≡ close
-  place_of_sign p close h = some_is p close (sym (ap (λ (z : List Token). end_at z) h))
+    place_of_sign : (p close : Pos) → sign close 125 ∷ [] ≡ sign p 125 ∷ [] → p ≡ close
+    place_of_sign p close h = some_is p close (sym (ap (λ (z : List Token). end_at z) h))
 
 -- no body where the brace ends no file
 pub no_end : (ks : List Token) (list : List Stmt) (rest : List Token) → begins_sign 125 rest ≡ true → end_at rest ≡ None → GoesOn ks list rest → (all : List Stmt) (p : Pos) → IsBody all p ks → ⊥
 no_end ks list rest first none g all p b = let x = g.only all p b in no_end_at x.0 p rest first none x.2
   where
-  no_end_by : (all : List Stmt) (p : Pos) (k : Token) (ks : List Token) → sign_at 125 (k ∷ ks) ≡ Some (k.pos, ks) → end_at (k ∷ ks) ≡ None → IsBody all p (k ∷ ks) → ⊥
-  no_end_by all p k ks found none b =
-      let brace : k ∷ ks ≡ sign k.pos 125 ∷ ks = sign_found 125 (k ∷ ks) (k.pos, ks) found in
-      let last = brace_ends all p k.pos ks (subst (IsBody all p) brace b) in
-      let ends : end_at (k ∷ ks) ≡ Some p = ap end_at (brace ∙ last.1) in absurd cc
-  no_end_at : (all : List Stmt) (p : Pos) (rest : List Token) → begins_sign 125 rest ≡ true → end_at rest ≡ None → IsBody all p rest → ⊥
-  no_end_at all p [] first none b = absurd cc
-  no_end_at all p (k ∷ ks) first none b = let found : sign_at 125 (k ∷ ks) ≡ Some (k.pos, ks) = rw first refl in no_end_by all p k ks found none b
+    no_end_by : (all : List Stmt) (p : Pos) (k : Token) (ks : List Token) → sign_at 125 (k ∷ ks) ≡ Some (k.pos, ks) → end_at (k ∷ ks) ≡ None → IsBody all p (k ∷ ks) → ⊥
+    no_end_by all p k ks found none b =
+        let brace : k ∷ ks ≡ sign k.pos 125 ∷ ks = sign_found 125 (k ∷ ks) (k.pos, ks) found in
+        let last = brace_ends all p k.pos ks (subst (IsBody all p) brace b) in
+        let ends : end_at (k ∷ ks) ≡ Some p = ap end_at (brace ∙ last.1) in absurd cc
+
+    no_end_at : (all : List Stmt) (p : Pos) (rest : List Token) → begins_sign 125 rest ≡ true → end_at rest ≡ None → IsBody all p rest → ⊥
+    no_end_at all p [] first none b = absurd cc
+    no_end_at all p (k ∷ ks) first none b = let found : sign_at 125 (k ∷ ks) ≡ Some (k.pos, ks) = rw first refl in no_end_by all p k ks found none b
 
 -- ---- the program
 

@@ -60,9 +60,9 @@ cell_back scope (Whole base) h = ap is_ref_i64 h
 tested : {A : Type 0} (b : Bool) (s t : A) → cond b (Some s) None ≡ Some t → (b ≡ true) × (s ≡ t)
 tested true s t e = (refl, ap (λ o. or_else s o) e)
   where
-  or_else : {A : Type 0} → A → Option A → A
-  or_else d None = d
-  or_else d (Some x) = x
+    or_else : {A : Type 0} → A → Option A → A
+    or_else d None = d
+    or_else d (Some x) = x
 tested false s t e = absurd cc
 
 load_tested : (is_ghost cell : Bool) (s t : Sorts) → cond is_ghost None (cond cell (Some s) None) ≡ Some t → (is_ghost ≡ false) × (cell ≡ true) × (s ≡ t)

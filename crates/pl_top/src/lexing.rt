@@ -108,7 +108,9 @@ fn word_len(text: &[u8]) -> usize
     ensures value { result ≡ prefix_len spelling.is_word_byte text.now }
     ensures within { result ≤ length text.now }
 {
-    text.iter().take_while(|byte| is_letter(**byte) || is_digit(**byte)).count()
+    text.iter()
+        .take_while(|byte| is_letter(**byte) || is_digit(**byte))
+        .count()
 }
 
 /// The longest front of letters and digits, and the rest.

@@ -17,4 +17,6 @@ pub use top::{check_command, pulse_main};
 pub use words::{Command, Usage, UsageKind, WordError, read_words};
 
 #[cfg(test)]
+mod reading_tests;
+#[cfg(test)]
 mod tests;

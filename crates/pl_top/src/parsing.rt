@@ -11,6 +11,81 @@ use pl_base::{Items, Memory, Name, Pos};
 use pl_syntax::{CellExpr, Decl, Expr, FunDecl, Program, Stmt, Stmts};
 use std::alloc::{AllocFailed, Global};
 
+/// The words of the language, which are no names.
+const WORDS: [&str; 71] = [
+    "struct",
+    "pred",
+    "ghost",
+    "fn",
+    "opens",
+    "requires",
+    "returns",
+    "ensures",
+    "decreases",
+    "let",
+    "mut",
+    "if",
+    "else",
+    "while",
+    "invariant",
+    "with",
+    "with_invariants",
+    "assert",
+    "by",
+    "return",
+    "par",
+    "not",
+    "true",
+    "false",
+    "null",
+    "emp",
+    "pure",
+    "exists",
+    "slice",
+    "block",
+    "lock_alive",
+    "lock_held",
+    "inv",
+    "fold",
+    "unfold",
+    "rewrite",
+    "as",
+    "share",
+    "gather",
+    "split",
+    "join",
+    "at",
+    "focus",
+    "unfocus",
+    "drop_",
+    "alloc",
+    "alloc_array",
+    "alloc_atomic",
+    "new",
+    "free",
+    "free_array",
+    "new_lock",
+    "acquire",
+    "release",
+    "free_lock",
+    "read",
+    "print",
+    "atomic_read",
+    "atomic_write",
+    "cas",
+    "galloc",
+    "new_invariant",
+    "i64",
+    "bool",
+    "ref",
+    "atomic",
+    "lock",
+    "int",
+    "perm",
+    "gref",
+    "iname",
+];
+
 /// Why reading stopped.
 #[derive(Debug, Drop)]
 pub enum Stop {
@@ -52,17 +127,7 @@ fn is_among(word: &Name, words: &[&str]) -> bool
 fn is_reserved(word: &Name) -> bool
     ensures { result ≡ form.is_reserved word.now }
 {
-    let words = [
-        "struct", "pred", "ghost", "fn", "opens", "requires", "returns", "ensures", "decreases",
-        "let", "mut", "if", "else", "while", "invariant", "with", "with_invariants", "assert",
-        "by", "return", "par", "not", "true", "false", "null", "emp", "pure", "exists", "slice",
-        "block", "lock_alive", "lock_held", "inv", "fold", "unfold", "rewrite", "as", "share",
-        "gather", "split", "join", "at", "focus", "unfocus", "drop_", "alloc", "alloc_array",
-        "alloc_atomic", "new", "free", "free_array", "new_lock", "acquire", "release", "free_lock",
-        "read", "print", "atomic_read", "atomic_write", "cas", "galloc", "new_invariant", "i64",
-        "bool", "ref", "atomic", "lock", "int", "perm", "gref", "iname",
-    ];
-    is_among(word, &words)
+    is_among(word, &WORDS)
 }
 
 fn is_word(kind: &Kind, word: &str) -> bool
