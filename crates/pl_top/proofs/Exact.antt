@@ -1,17 +1,17 @@
 -- Each status comes exactly by its cause.
-use Rattle.std.proofs.Common.{◌≡◌, ◌≢◌, ◌≤◌, ◌<◌, ℕ, List, [], ◌∷◌, length, Option, Some, None, refl, sym, ap, ◌∙◌, subst, arith}
-use Rattle.std.specs.Prelude.{◌↔◌, Result, Ok, Err}
+use Rattle.std.proofs.Common.{◌≡◌, ◌≤◌, ◌<◌, ℕ, List, length, Option, Some, None, refl, sym, subst, arith}
+use Rattle.std.specs.Prelude.{Result, Ok, Err}
 use Rattle.pl_base.specs.declared.pos.Pos.{Pos}
 use Rattle.pl_base.specs.Outside.{Files, file_in}
-use Rattle.pl_syntax.specs.Tree.{Fun, Decl, Function, Program}
+use Rattle.pl_syntax.specs.Tree.{Fun}
 use Rattle.pl_walk.specs.declared.walk.Duty.{Duty}
-use Rattle.pl_walk.specs.Walk.{Undone, AllDone}
+use Rattle.pl_walk.specs.Walk.{Undone}
 use Rattle.pl_walk.proofs.WalkLaws.{not_both}
 use Rattle.pl_top.specs.declared.words.Usage.{Usage}
 use Rattle.pl_top.specs.Telling.{Given, whole, long, Takes}
 use Rattle.pl_top.specs.Words.{Asked, source_of}
-use Rattle.pl_top.specs.Judging.{program_of, IsFileOf, IsAccepted, IsUndone, IsNotBuilt, JudgesBytes, is_accepted, is_undone, is_not_built, Judges}
-use Rattle.pl_top.specs.Calls.{Judged, Answered, IsExact, IsExactFor, Promised}
+use Rattle.pl_top.specs.Judging.{program_of, IsFileOf, IsAccepted, IsUndone, JudgesBytes, is_accepted, is_undone, is_not_built, Judges}
+use Rattle.pl_top.specs.Calls.{Answered, IsExact, IsExactFor, Promised}
 
 -- a file has one function
 one_function : (bytes : List ℕ) (main other : Fun) → IsFileOf bytes main → IsFileOf bytes other → other ≡ main

@@ -1,5 +1,5 @@
 -- From the walk's answer to the status and the line.
-use Rattle.std.proofs.Common.{◌≡◌, ℕ, zero, List, [], ◌∷◌, Some, slice_get, refl, sym, ap, ◌∙◌, subst, subst₂}
+use Rattle.std.proofs.Common.{◌≡◌, ℕ, List, [], ◌∷◌, Some, slice_get, sym, ap, ◌∙◌, subst, subst₂}
 use Rattle.std.specs.Prelude.{Result, Ok, Err, IfOk}
 use Rattle.pl_base.specs.declared.pos.Pos.{Pos}
 use Rattle.pl_syntax.specs.Tree.{Fun, Decl, Function, Program}

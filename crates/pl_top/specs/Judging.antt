@@ -1,5 +1,5 @@
 -- What is answered to `check`, where nothing outside fails and memory is enough.
-use Rattle.std.specs.Prelude.{◌≡◌, ◌⊎◌, ◌≤◌, ℕ, List, [], ◌∷◌, length}
+use Rattle.std.specs.Prelude.{◌≡◌, ℕ, List, [], ◌∷◌}
 use Rattle.pl_base.specs.declared.pos.Pos.{Pos}
 use Rattle.pl_syntax.specs.Tree.{Fun, Function, Program}
 use Rattle.pl_walk.specs.declared.walk.Duty.{Duty}
