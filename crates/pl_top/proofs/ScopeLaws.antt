@@ -1,6 +1,6 @@
 -- The walk over the sorts is the sort rules.
 use Rattle.std.proofs.Common.{◌≡◌, ℕ, ℤ, pos, negsuc, ◌^◌, Bool, true, false, cond, Option, Some, None, List, [], ◌∷◌, refl, sym, ap, subst, ◌∙◌}
-use Rattle.std.specs.Prelude.{FitsSigned, nat_lt}
+use Rattle.std.specs.Prelude.{FitsSigned}
 use Rattle.std.specs.Int.{w64}
 use Rattle.std.specs.Str.{bytes_eq}
 use lib.Chars.{codes}
@@ -9,12 +9,12 @@ use Rattle.std.proofs.lemmas.Bool.{ltb-true, lt-ltb}
 use Rattle.std.proofs.lemmas.Cmp.{nat_list_eq_equiv}
 use Rattle.pl_syntax.specs.declared.expr.Sort.{Sort}
 use Rattle.pl_syntax.specs.declared.expr.Sort.TheVariants.{I64, RefI64}
-use Rattle.pl_syntax.specs.Tree.{Name, Expr, Int, Var, CellExpr, Whole, Stmt, Load, Alloc, Free, Print, Fun, Function}
+use Rattle.pl_syntax.specs.Tree.{Expr, Int, Var, CellExpr, Whole, Stmt, Load, Alloc, Free, Print, Fun}
 use Rattle.pl_syntax.specs.Sorts.{Scope, sort_of, IsInteger, IsCell, AreSorted, IsMain, IsTyped}
 use Rattle.pl_top.specs.declared.parsing.Stop.{Stop}
 use Rattle.pl_top.specs.declared.parsing.Stop.TheVariants as stop
 use Rattle.pl_top.specs.Forms.{next, Fails}
-use Rattle.pl_top.specs.Scopes.{Sorts, no_sorts, put, is_i64, is_ref_i64, fits_i64, is_integer, is_cell, must, sorted_by, all_sorted, FailsToSort, alone}
+use Rattle.pl_top.specs.Scopes.{Sorts, no_sorts, put, is_i64, is_ref_i64, fits_i64, is_integer, is_cell, sorted_by, all_sorted, FailsToSort, alone}
 use Rattle.pl_top.proofs.Sentences.{next_some}
 
 -- sorts that changed at one name alone

@@ -1,20 +1,17 @@
 -- Reading a form gives exactly what the grammar derives.
-use Rattle.std.proofs.Common.{◌≡◌, ℕ, ◌+◌, ◌<◌, ◌==◌, pos, Bool, true, false, Option, Some, None, List, [], ◌∷◌, ◌++◌, length, refl, sym, ap, subst, ◌∙◌, arith}
+use Rattle.std.proofs.Common.{◌≡◌, ℕ, ◌==◌, pos, Bool, true, false, Option, Some, None, List, [], ◌∷◌, ◌++◌, refl, sym, ap, subst, ◌∙◌}
 use Rattle.std.specs.Prelude.{unwrap_or, if◌then◌else◌}
-use Rattle.std.specs.List.{list_any}
-use Rattle.std.specs.Str.{bytes_eq}
 use lib.Chars.{codes}
 use Rattle.std.proofs.lemmas.Bool.{eqb-true, cond-false}
-use Rattle.std.proofs.lemmas.List.{append_assoc, append-nil, length-append}
+use Rattle.std.proofs.lemmas.List.{append_assoc}
 use Rattle.std.proofs.lemmas.Slice.Eq.{bytes_eq-Decides}
 use Rattle.pl_base.specs.declared.pos.Pos.{Pos}
-use Rattle.pl_syntax.specs.Tree.{Name, Expr, Int, Var, Whole, Stmt, Load, Alloc, Free, Print, Program, Function}
+use Rattle.pl_syntax.specs.Tree.{Name, Expr, Int, Var, Whole, Stmt, Load, Alloc, Free, Print}
 use Rattle.pl_top.specs.declared.token.Token.{Token}
 use Rattle.pl_top.specs.declared.token.Kind.{Kind}
 use Rattle.pl_top.specs.declared.token.Kind.TheVariants.{Word, Number, Sign}
-use Rattle.pl_top.specs.Grammar.{words, IsName, word, sign, number, negative, IsValue, is_number, is_negative, is_name, IsStatement, is_load, is_alloc, is_free, is_print, AreStatements, IsProgram}
-use Rattle.pl_top.specs.Forms as form
-use Rattle.pl_top.specs.Forms.{next, is_reserved, is_word, is_sign, word_at, sign_at, begins_sign, name_of, name_at, number_of, number_at, value_of, value_at, closed_at, value_in_brackets, load_at, alloc_at, let_at, free_at, print_at, statement_at, header_at, end_at, IsBody, GoesOn, IsOnlyBody}
+use Rattle.pl_top.specs.Grammar.{IsName, word, sign, number, negative, IsValue, is_number, is_negative, is_name, IsStatement, is_load, is_alloc, is_free, is_print}
+use Rattle.pl_top.specs.Forms.{next, is_reserved, is_word, is_sign, word_at, sign_at, begins_sign, name_of, name_at, number_of, number_at, value_of, value_at, closed_at, value_in_brackets, load_at, alloc_at, let_at, free_at, print_at, statement_at}
 
 pub some_is : {A : Type 0} (x y : A) → Some x ≡ Some y → x ≡ y
 some_is x y e = ap (λ o. unwrap_or o x) e

@@ -1,5 +1,5 @@
 -- How tokens come off the front of a text, one after the other.
-use Rattle.std.specs.Prelude.{◌≡◌, ℕ, ◌+◌, ◌<◌, ◌^◌, Bool, false, List, [], ◌∷◌, ◌++◌, length}
+use Rattle.std.specs.Prelude.{◌≡◌, ℕ, ◌+◌, ◌<◌, ◌^◌, List, ◌++◌, length}
 use Rattle.pl_base.specs.declared.pos.Pos.{Pos}
 use Rattle.pl_top.specs.declared.token.Token.{Token}
 use Rattle.pl_top.specs.declared.token.Kind.{Kind}

@@ -1,8 +1,7 @@
-use Rattle.std.proofs.Common.{◌≡◌, List, ℕ, [], ◌∷◌, length, subst, sym, ◌∙◌, arith}
-use Rattle.std.proofs.lemmas.Bool.{eqb-true}
+use Rattle.std.proofs.Common.{◌≡◌, List, ℕ, [], subst, sym, ◌∙◌}
 use Rattle.pl_top.specs.Spelling.{first_place}
 use Rattle.pl_top.specs.Leads.{Leads}
-use Rattle.pl_top.proofs.Fronts.{token_and_blanks, all_spelled, none_behind, is_nil}
+use Rattle.pl_top.proofs.Fronts.{token_and_blanks, all_spelled, is_nil}
 use Rattle.pl_top.proofs.lexing.lex.Goals as goal
 
 pub loop-rest-preserved : goal.loop-rest-preserved

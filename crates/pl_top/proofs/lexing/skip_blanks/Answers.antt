@@ -1,4 +1,3 @@
-use Rattle.std.proofs.Common.{[]}
 use Rattle.pl_top.proofs.Fronts.{blanks_lead}
 use Rattle.pl_top.proofs.lexing.skip_blanks.Goals as goal
 

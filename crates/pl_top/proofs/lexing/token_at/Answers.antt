@@ -1,4 +1,4 @@
-use Rattle.std.proofs.Common.{◌≡◌, ◌<◌, ◌+◌, ◌++◌, ap, ◌∙◌, length, arith}
+use Rattle.std.proofs.Common.{◌≡◌, ◌<◌, ◌+◌, ap, ◌∙◌, length, arith}
 use Rattle.std.proofs.lemmas.List.{length-append}
 use Rattle.pl_top.specs.Leads.{IsFront}
 use Rattle.pl_top.proofs.Fronts.{none_spelled, token_leads, front_some}

@@ -1,6 +1,4 @@
-use Rattle.std.proofs.Common.{List, subst}
 use Rattle.pl_syntax.specs.Plain.{plain_program}
-use Rattle.pl_top.specs.declared.token.Token.{Token}
 use Rattle.pl_top.specs.Leads.{SpellsOnly}
 use Rattle.pl_top.proofs.Files.{parsed, not_parsed}
 use Rattle.pl_top.proofs.reading.read_program.Goals as goal
