@@ -115,7 +115,7 @@ Reads-word s goes = record {
 
 -- ---- numbers
 
-value_grows : (v : ℕ) (cs : List ℕ) → v ≤ value_from v cs
+pub value_grows : (v : ℕ) (cs : List ℕ) → v ≤ value_from v cs
 value_grows v [] = omega arith
 value_grows v (c ∷ cs) = omega (arith, value_grows (v * 10 + (c - 48)) cs)
 

@@ -1,0 +1,4 @@
+pub mod Cuts
+pub mod Longest
+pub mod Symbols
+pub mod Turns

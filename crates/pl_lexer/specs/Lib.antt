@@ -1,0 +1,4 @@
+pub mod Answers
+pub mod Lexemes
+pub mod Scan
+pub mod Tokens

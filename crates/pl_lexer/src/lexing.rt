@@ -1,0 +1,65 @@
+//! The tokens of a text.
+
+ghost use Rattle.std.specs.Prelude.{◌≡◌, ◌<◌, ◌-◌, ◌^◌, length, IfOk, IfErr, true, encode_utf8_all};
+ghost use Rattle.std.specs.Str.{all_scalars, chars, IsUtf8};
+ghost use Rattle.pl_lexer.specs.Tokens as spec;
+
+use crate::error::LexError;
+use crate::kinds::kind_of;
+use crate::places::{START, moved};
+use crate::scan::lexeme_len;
+use crate::tokens::{Kind, Token, Tokens};
+use std::alloc::{AllocError, Global};
+
+/// The tokens of a file's bytes, with the end as the last.
+pub fn lex(alloc: Global, bytes: &[u8]) -> Result<Tokens, LexError>
+    requires { length bytes.now < 2 ^ 32 - 1 }
+    ensures tokens { IfOk result (spec.IsLexed bytes.now) }
+    ensures refusal { IfErr result (spec.IsRefusal bytes.now) }
+{
+    match std::str::from_utf8(bytes) {
+        Err(error) => Err(LexError::BadUtf8(error.valid_up_to() as u32)),
+        Ok(text) => {
+            let characters = characters_of(alloc, text)?;
+            lex_text(alloc, text, characters.as_slice())
+        }
+    }
+}
+
+fn characters_of(alloc: Global, text: &str) -> Result<Vec<char>, AllocError>
+    ensures { IfOk result (λ v. v.items ≡ chars text.now) }
+{
+    text.chars().collect(alloc)
+}
+
+/// The tokens of a text and its characters.
+fn lex_text(alloc: Global, text: &str, characters: &[char]) -> Result<Tokens, LexError>
+    requires spelled { text.now ≡ encode_utf8_all characters.now }
+    requires scalars { all_scalars characters.now ≡ true }
+    requires short { length text.now < 2 ^ 32 - 1 }
+    ensures tokens { IfOk result (spec.IsCutInto characters.now) }
+    ensures refusal { IfErr result (spec.IsRefusedAt characters.now) }
+{
+    let mut tokens = Vec::new(alloc);
+    let mut at = START;
+    let mut rest = characters;
+    'lexemes: while !rest.is_empty() {
+        let len = lexeme_len(rest);
+        if len == 0 {
+            return Err(LexError::BadChar(at));
+        }
+        let (lexeme, behind) = rest.split_at(len);
+        let after = moved(at, lexeme);
+        let spelling = &text[at.byte as usize..after.byte as usize];
+        if let Some(kind) = kind_of(alloc, at, lexeme, spelling)? {
+            tokens.push(Token { pos: at, kind })?;
+        }
+        at = after;
+        rest = behind;
+    }
+    tokens.push(Token {
+        pos: at,
+        kind: Kind::End,
+    })?;
+    Ok(Tokens::of(tokens))
+}

@@ -1,0 +1,127 @@
+//! The signs by their numbers.
+
+ghost use Rattle.std.specs.Prelude.{◌≡◌, ◌<◌, length, position, IfSome};
+ghost use Rattle.std.specs.Str.{bytes_eq};
+ghost use Rattle.pl_lexer.specs.Tokens as spec;
+
+/// The symbols and then the words of the language.
+const SIGNS: [&str; 101] = [
+    "(",
+    ")",
+    "{",
+    "}",
+    "[",
+    "]",
+    ",",
+    ";",
+    ":",
+    ".",
+    "#",
+    "=",
+    ":=",
+    "|->",
+    "**",
+    "+",
+    "-",
+    "*",
+    "/",
+    "%",
+    "<",
+    "<=",
+    ">",
+    ">=",
+    "==",
+    "!=",
+    "&&",
+    "||",
+    "==>",
+    "!",
+    "struct",
+    "pred",
+    "ghost",
+    "fn",
+    "opens",
+    "requires",
+    "returns",
+    "ensures",
+    "decreases",
+    "let",
+    "mut",
+    "if",
+    "else",
+    "while",
+    "invariant",
+    "with",
+    "with_invariants",
+    "assert",
+    "by",
+    "return",
+    "par",
+    "not",
+    "true",
+    "false",
+    "null",
+    "emp",
+    "pure",
+    "exists",
+    "slice",
+    "block",
+    "lock_alive",
+    "lock_held",
+    "inv",
+    "fold",
+    "unfold",
+    "rewrite",
+    "as",
+    "share",
+    "gather",
+    "split",
+    "join",
+    "at",
+    "focus",
+    "unfocus",
+    "drop_",
+    "alloc",
+    "alloc_array",
+    "alloc_atomic",
+    "new",
+    "free",
+    "free_array",
+    "new_lock",
+    "acquire",
+    "release",
+    "free_lock",
+    "read",
+    "print",
+    "atomic_read",
+    "atomic_write",
+    "cas",
+    "galloc",
+    "new_invariant",
+    "i64",
+    "bool",
+    "ref",
+    "atomic",
+    "lock",
+    "int",
+    "perm",
+    "gref",
+    "iname",
+];
+
+fn place_in(list: &[&str], spelling: &str) -> Option<usize>
+    ensures value { result ≡ position (λ s. bytes_eq (s.now) spelling.now) list.now }
+    ensures within { IfSome result (λ place. place < length list.now) }
+{
+    list.iter().position(|sign| *sign == spelling)
+}
+
+/// The number of a sign.
+pub fn sign_number(spelling: &str) -> Option<u8>
+    ensures { result ≡ spec.sign_number spelling.now }
+{
+    match place_in(&SIGNS, spelling) {
+        Some(place) => Some(place as u8),
+        None => None,
+    }
+}
