@@ -1,4 +1,5 @@
 pub mod Cuts
 pub mod Longest
+pub mod Once
 pub mod Symbols
 pub mod Turns

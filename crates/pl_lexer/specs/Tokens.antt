@@ -1,5 +1,5 @@
 -- Tokens: the text is cut into longest lexemes, and each that is no blank and no comment is a token.
-use Rattle.std.specs.Prelude.{◌≡◌, ℕ, ◌+◌, ◌^◌, ◌≤◌, ◌<◌, pos, ◌⊎◌, ◌||◌, ◌&&◌, ◌==◌, ⊤, Bool, true, false, if◌then◌else◌, List, [], ◌∷◌, ◌++◌, length, fold, sum_by, position, codes, encode_utf8, encode_utf8_all, Option, Some, None}
+use Rattle.std.specs.Prelude.{◌≡◌, ℕ, ◌+◌, ◌^◌, ◌≤◌, ◌<◌, pos, ◌⊎◌, ◌||◌, ◌&&◌, ◌==◌, ⊤, Bool, true, false, if◌then◌else◌, List, [], ◌∷◌, ◌++◌, length, fold, sum_by, position, codes, encode_utf8, encode_utf8_all, Option, Some, None, Result, Err}
 use Rattle.std.specs.Char.{is_ascii_digit, is_ascii_alphanumeric}
 use Rattle.std.specs.Str.{bytes_eq, chars, IsUtf8, IsValidUpTo}
 use Rattle.pl_base.specs.declared.pos.Pos.{Pos}
@@ -145,3 +145,7 @@ IsLexed bytes tokens = IsUtf8 bytes × IsCutInto (chars bytes) tokens
 abbrev pub IsRefusal : List ℕ → LexError → Type 0
 IsRefusal bytes (e.BadUtf8 n) = IsValidUpTo bytes n
 IsRefusal bytes error = IsUtf8 bytes × IsRefusedAt (chars bytes) error
+
+-- a result is this answer, but for want of memory
+abbrev pub IsButForMemory : Result (List Token) LexError → Result (List Token) LexError → Type 0
+IsButForMemory result answer = (result ≡ answer) ⊎ (result ≡ Err e.Memory)

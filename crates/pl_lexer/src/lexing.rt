@@ -1,6 +1,9 @@
 //! The tokens of a text.
 
-ghost use Rattle.std.specs.Prelude.{◌≡◌, ◌<◌, ◌-◌, ◌^◌, length, IfOk, IfErr, true, encode_utf8_all};
+ghost use Rattle.std.specs.Prelude.{◌≡◌, ◌≢◌, ◌<◌, ◌-◌, ◌^◌, length, List, IfOk, IfErr, Ok, Err, true, encode_utf8_all};
+ghost use Rattle.pl_lexer.specs.declared.error.LexError.{LexError};
+ghost use Rattle.pl_lexer.specs.declared.error.LexError.TheVariants.{Memory};
+ghost use Rattle.pl_lexer.specs.declared.tokens.Token.{Token};
 ghost use Rattle.std.specs.Str.{all_scalars, chars, IsUtf8};
 ghost use Rattle.pl_lexer.specs.Tokens as spec;
 
@@ -16,6 +19,8 @@ pub fn lex(alloc: Global, bytes: &[u8]) -> Result<Tokens, LexError>
     requires { length bytes.now < 2 ^ 32 - 1 }
     ensures tokens { IfOk result (spec.IsLexed bytes.now) }
     ensures refusal { IfErr result (spec.IsRefusal bytes.now) }
+    ensures all_tokens { (tokens : List Token) → spec.IsLexed bytes.now tokens → spec.IsButForMemory result (Ok tokens) }
+    ensures all_refusals { (error : LexError) → spec.IsRefusal bytes.now error → error ≢ Memory → spec.IsButForMemory result (Err error) }
 {
     match std::str::from_utf8(bytes) {
         Err(error) => Err(LexError::BadUtf8(error.valid_up_to() as u32)),
