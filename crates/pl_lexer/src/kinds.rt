@@ -38,7 +38,7 @@ pub fn kind_of(
             Some(value) => Ok(Some(Kind::Number(value))),
             None => Err(LexError::LongNumber(at)),
         }
-    } else if let Some(number) = sign_number(spelling) {
+    } else if let Some(number) = sign_number(lexeme, spelling) {
         Ok(Some(Kind::Sign(number)))
     } else if is_long_name(lexeme) {
         Err(LexError::LongName(at))

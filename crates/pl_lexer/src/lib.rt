@@ -12,3 +12,6 @@ mod tokens;
 pub use error::LexError;
 pub use lexing::lex;
 pub use tokens::{Kind, Token, Tokens};
+
+#[cfg(test)]
+mod tests;

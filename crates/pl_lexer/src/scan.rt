@@ -15,7 +15,7 @@ pub fn is_blank(c: char) -> bool
 }
 
 /// Whether an identifier may begin with the character.
-fn is_start(c: char) -> bool
+pub fn is_start(c: char) -> bool
     ensures { result ≡ lexemes.is_start c }
 {
     is_xid_start(c) || c == '_'

@@ -1,41 +1,21 @@
 //! The signs by their numbers.
 
-ghost use Rattle.std.specs.Prelude.{◌≡◌, ◌<◌, length, position, IfSome};
+ghost use Rattle.std.specs.Prelude.{◌≡◌, ◌<◌, ◌+◌, length, position, option_map, IfSome, encode_utf8_all};
 ghost use Rattle.std.specs.Str.{bytes_eq};
+ghost use Rattle.pl_readers.specs.Reader as read;
+ghost use Rattle.pl_lexer.specs.Lexemes.{is_start, symbols, words};
 ghost use Rattle.pl_lexer.specs.Tokens as spec;
 
-/// The symbols and then the words of the language.
-const SIGNS: [&str; 101] = [
-    "(",
-    ")",
-    "{",
-    "}",
-    "[",
-    "]",
-    ",",
-    ";",
-    ":",
-    ".",
-    "#",
-    "=",
-    ":=",
-    "|->",
-    "**",
-    "+",
-    "-",
-    "*",
-    "/",
-    "%",
-    "<",
-    "<=",
-    ">",
-    ">=",
-    "==",
-    "!=",
-    "&&",
-    "||",
-    "==>",
-    "!",
+use crate::scan::is_start;
+
+/// The symbols, in the order of their numbers.
+const SYMBOLS: [&str; 30] = [
+    "(", ")", "{", "}", "[", "]", ",", ";", ":", ".", "#", "=", ":=", "|->", "**", "+", "-", "*",
+    "/", "%", "<", "<=", ">", ">=", "==", "!=", "&&", "||", "==>", "!",
+];
+
+/// The words of the language, whose numbers follow.
+const WORDS: [&str; 71] = [
     "struct",
     "pred",
     "ghost",
@@ -116,12 +96,41 @@ fn place_in(list: &[&str], spelling: &str) -> Option<usize>
     list.iter().position(|sign| *sign == spelling)
 }
 
-/// The number of a sign.
-pub fn sign_number(spelling: &str) -> Option<u8>
-    ensures { result ≡ spec.sign_number spelling.now }
+fn symbol_number(spelling: &str) -> Option<u8>
+    ensures { result ≡ position (λ s. bytes_eq s spelling.now) symbols }
 {
-    match place_in(&SIGNS, spelling) {
+    match place_in(&SYMBOLS, spelling) {
         Some(place) => Some(place as u8),
         None => None,
+    }
+}
+
+fn word_number(spelling: &str) -> Option<u8>
+    ensures { result ≡ option_map (λ place. 30 + place) (position (λ s. bytes_eq s spelling.now) words) }
+{
+    match place_in(&WORDS, spelling) {
+        Some(place) => Some(30 + place as u8),
+        None => None,
+    }
+}
+
+/// The number of the sign that characters spell.
+pub fn sign_number(lexeme: &[char], spelling: &str) -> Option<u8>
+    requires { spelling.now ≡ encode_utf8_all lexeme.now }
+    ensures { result ≡ spec.sign_number spelling.now }
+{
+    if begins_identifier(lexeme) {
+        word_number(spelling)
+    } else {
+        symbol_number(spelling)
+    }
+}
+
+fn begins_identifier(lexeme: &[char]) -> bool
+    ensures { result ≡ read.begins is_start lexeme.now }
+{
+    match lexeme {
+        [] => false,
+        [first, ..] => is_start(*first),
     }
 }

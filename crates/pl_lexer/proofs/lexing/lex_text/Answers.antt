@@ -125,7 +125,7 @@ lexemes-preserved-in_ok-push c =
       lexemes = i.lexemes ++ l ∷ [];
       front = i.front ++ encode_utf8_all l;
       lexed = subst (spec.Lexed c.args.characters.now (i.lexemes ++ l ∷ []) behind) (sym c.moved-after.ensures.value)
-        (lexed_push c.args.characters.now i.lexemes l behind c.lexemes.at (subst (λ r. spec.Lexed c.args.characters.now i.lexemes r c.lexemes.at) t.parts i.lexed) t.longest answer.1 answer.2);
+          (lexed_push c.args.characters.now i.lexemes l behind c.lexemes.at (subst (λ r. spec.Lexed c.args.characters.now i.lexemes r c.lexemes.at) t.parts i.lexed) t.longest answer.1 answer.2);
       tokens = c.in_ok-push.ensures.items ∙ rw (i.tokens, i.lexed.place) (sym (tokens_push spec.start i.lexemes l ∙ rw (answer.0, c.in-Some.is) refl));
       spelled = t.spelled;
       scalars = t.scalars;
@@ -149,7 +149,7 @@ lexemes-preserved c =
       lexemes = i.lexemes ++ l ∷ [];
       front = i.front ++ encode_utf8_all l;
       lexed = subst (spec.Lexed c.args.characters.now (i.lexemes ++ l ∷ []) behind) (sym c.moved-after.ensures.value)
-        (lexed_push c.args.characters.now i.lexemes l behind c.lexemes.at (subst (λ r. spec.Lexed c.args.characters.now i.lexemes r c.lexemes.at) t.parts i.lexed) t.longest answer.1 answer.2);
+          (lexed_push c.args.characters.now i.lexemes l behind c.lexemes.at (subst (λ r. spec.Lexed c.args.characters.now i.lexemes r c.lexemes.at) t.parts i.lexed) t.longest answer.1 answer.2);
       tokens = i.tokens ∙ sym (tokens_push spec.start i.lexemes l ∙ rw (answer.0, c.in_default.is) (append-nil (spec.tokens_of spec.start i.lexemes)));
       spelled = t.spelled;
       scalars = t.scalars;
