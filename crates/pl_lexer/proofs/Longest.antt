@@ -39,7 +39,7 @@ start_ascii c h = rw (is_xid_start-ascii c h) refl
 equal_low : (c d : ℕ) → d < 128 → (c == d) ≡ true → c < 128
 equal_low c d h e = rw (eqb-true c d e) h
 
-blank_low : (c : ℕ) → is_blank c ≡ true → c < 128
+pub blank_low : (c : ℕ) → is_blank c ≡ true → c < 128
 blank_low c e =
     elim (or_cases ((c == 32) || (c == 9) || (c == 13)) (c == 10) e) [
       | inr h ↦ equal_low c 10 (omega arith) h

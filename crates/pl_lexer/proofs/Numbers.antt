@@ -72,10 +72,10 @@ none_equal xs bytes h =
     list_all-from_AllPass (λ s. not (bytes_eq s bytes)) xs
     (λ i d lt. not_from _ (λ e. h _ (All-contains_itself xs i d lt) ((bytes_eq-Decides _ bytes).0 e)))
 
-abbrev all_ascii : List ℕ → Bool
+abbrev pub all_ascii : List ℕ → Bool
 all_ascii s = list_all (λ c. nat_lt c 128) s
 
-ascii_is : (s : List ℕ) → all_ascii s ≡ true → IsAscii s
+pub ascii_is : (s : List ℕ) → all_ascii s ≡ true → IsAscii s
 ascii_is s e = IsAscii-from_all s (λ i d lt. ltb-true _ 128 (AllPass-from_list_all (λ c. nat_lt c 128) s e i d lt))
 
 -- a sign spelled by characters is these
@@ -117,3 +117,6 @@ symbol_number l starts =
     (none_equal words (encode_utf8_all l) (λ s i is.
     let same = spelled s l (of_each all_ascii words s words_ascii i) is in
     let start : begins is_start l ≡ true = ap (begins is_start) (sym same) ∙ letter_starts s (of_each begins_letter words s words_begin i) in absurd cc))
+
+pub ascii_symbol : (l : List ℕ) → Contains symbols l → encode_utf8_all l ≡ l
+ascii_symbol l i = encodes-IsAscii l (ascii_is l (of_each all_ascii symbols l symbols_ascii i))

@@ -10,7 +10,7 @@ use Rattle.pl_lexer.specs.declared.tokens.Kind.TheVariants as k
 use Rattle.pl_lexer.specs.declared.tokens.Token.{Token}
 use Rattle.pl_lexer.specs.declared.error.LexError.{LexError}
 use Rattle.pl_lexer.specs.declared.error.LexError.TheVariants as e
-use Rattle.pl_lexer.specs.Tokens.{IsLongest, Cut, NoLexeme, start, place_behind, kind_of, all_tokens, IsLongNumber, IsLongName, AllShort, Lexed, IsLexed, IsRefusal, IsRefusedAt, IsCutInto, IsButForMemory}
+use Rattle.pl_lexer.specs.Tokens.{IsLongest, Cut, NoLexeme, start, place_behind, kind_of, all_tokens, AreTokens, IsLongNumber, IsLongName, AllShort, Lexed, IsLexed, IsRefusal, IsRefusedAt, IsCutInto, IsButForMemory}
 use Rattle.pl_lexer.proofs.Longest.{lexeme_some}
 
 same_front : (l b l' b' : List ℕ) → l ++ b ≡ l' ++ b' → length l ≡ length l' → (l ≡ l') × (b ≡ b')
@@ -241,3 +241,28 @@ only_refusals bytes cs (Err error) utf8 is found refused other refusal certain =
     by_memory (λ x. IsRefusedAt cs x → IsButForMemory (Err x) (Err other)) error (λ _. inr refl)
     (λ sure r. inl (ap Err (refused_once bytes error other sure certain (refusal_of bytes error sure utf8 (subst (λ (x : List ℕ). IsRefusedAt x error) is r)) refusal)))
     refused
+
+-- ---- tokens without limits
+
+cut_once : (text : List ℕ) (ls ks : List (List ℕ)) → Cut text ls [] → Cut text ks [] → ls ≡ ks
+cut_once text [] [] a b = refl
+cut_once text [] (k ∷ ks) a b = absurd (no_more k b.0 (sym a ∙ b.1) b.2)
+  where
+    no_more : (l behind : List ℕ) → [] ≡ l ++ behind → IsLongest l behind → ⊥
+    no_more [] behind is here = let some = lexeme_some [] here.0 in omega arith
+    no_more (c ∷ l) behind is here = cc
+cut_once text (l ∷ ls) [] a b = absurd (no_more l a.0 (sym b ∙ a.1) a.2)
+  where
+    no_more : (l behind : List ℕ) → [] ≡ l ++ behind → IsLongest l behind → ⊥
+    no_more [] behind is here = let some = lexeme_some [] here.0 in omega arith
+    no_more (c ∷ l) behind is here = cc
+cut_once text (l ∷ ls) (k ∷ ks) a b =
+    let same = longest_once l a.0 k b.0 (sym a.1 ∙ b.1) a.2 b.2 in
+    let later = cut_once a.0 ls ks a.3 (subst (λ (t : List ℕ). Cut t ks []) (sym same.1) b.3) in
+    cc (same.0, later)
+
+pub are_tokens_once : (bytes : List ℕ) (ts us : List Token) → AreTokens bytes ts → AreTokens bytes us → ts ≡ us
+are_tokens_once bytes ts us a b = a.1.2 ∙ ap all_tokens (cut_once (chars bytes) a.1.0 b.1.0 a.1.1 b.1.1) ∙ sym b.1.2
+
+pub lexed_are_tokens : (bytes : List ℕ) (ts : List Token) → IsLexed bytes ts → AreTokens bytes ts
+lexed_are_tokens bytes ts a = (a.0, (a.1.0, a.1.2.cut, a.1.3))

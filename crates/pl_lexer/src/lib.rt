@@ -3,6 +3,7 @@
 
 mod error;
 mod kinds;
+mod laws;
 mod lexing;
 mod places;
 mod scan;
@@ -10,6 +11,7 @@ mod signs;
 mod tokens;
 
 pub use error::LexError;
+pub use laws::{pieces_are_found, pieces_stand_for, tokens_are_one, tokens_are_proper};
 pub use lexing::lex;
 pub use tokens::{Kind, Token, Tokens};
 
