@@ -1,17 +1,16 @@
 -- Pieces that are apart are found again.
-use Rattle.std.proofs.Common.{◌≡◌, ℕ, zero, suc, ◌+◌, ◌≤◌, ◌<◌, ◌⊎◌, inl, inr, ◌||◌, ◌&&◌, ◌==◌, Bool, true, false, cond, List, [], ◌∷◌, ◌++◌, length, take, drop, ◌-◌, refl, sym, ap, subst, ◌∙◌, append_assoc, arith}
+use Rattle.std.proofs.Common.{◌≡◌, ℕ, suc, ◌+◌, ◌≤◌, ◌<◌, ◌⊎◌, inl, inr, ◌||◌, ◌&&◌, ◌==◌, Bool, true, false, List, [], ◌∷◌, ◌++◌, length, take, drop, ◌-◌, refl, sym, ap, subst, ◌∙◌, arith}
 use Rattle.std.proofs.Math.Seq.{take-append-add, drop-append_seam}
 use Rattle.std.specs.Prelude.{not}
-use Rattle.std.specs.Char.{is_ascii_digit, is_ascii_alphabetic}
+use Rattle.std.specs.Char.{is_ascii_digit}
 use Rattle.std.specs.List.{list_all, prefix_len}
-use Rattle.std.proofs.lemmas.Bool.{eqb-true, eq-eqb, and_parts, and_from, or_cases}
-use Rattle.std.proofs.lemmas.List.{append-nil, length-append}
-use Rattle.pl_readers.specs.Reader.{begins}
-use Rattle.pl_lexer.specs.Lexemes.{is_blank, is_start, is_more, is_lf, IsBlank, IsIdentifier, IsNumber, IsSymbol, IsLexeme, symbols}
-use Rattle.pl_lexer.specs.Scan.{is_prefix, begins_symbol, symbol_len, begins_slash, lexeme_len}
+use Rattle.std.proofs.lemmas.Bool.{eq-eqb, and_parts, and_from}
+use Rattle.std.proofs.lemmas.List.{length-append}
+use Rattle.pl_lexer.specs.Lexemes.{is_blank, is_more, IsBlank, IsIdentifier, IsNumber, IsSymbol, IsLexeme, symbols}
+use Rattle.pl_lexer.specs.Scan.{is_prefix, symbol_len, begins_slash, lexeme_len}
 use Rattle.pl_lexer.specs.Tokens.{IsLongest}
 use Rattle.pl_lexer.specs.Printing.{is_joining, is_apart}
-use Rattle.pl_lexer.proofs.Symbols.{of_each, symbol_is, symbol_longest, First, first_of}
+use Rattle.pl_lexer.proofs.Symbols.{of_each, symbol_is, symbol_longest, first_of}
 use Rattle.pl_lexer.proofs.Longest.{longest, start_apart, digit_apart, start_ascii}
 
 -- the next character, if there is one, fails the test

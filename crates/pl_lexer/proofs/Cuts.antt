@@ -1,9 +1,8 @@
 -- One lexeme more.
-use Rattle.std.proofs.Common.{◌≡◌, ℕ, zero, suc, ◌+◌, ◌≤◌, ◌<◌, List, [], ◌∷◌, ◌++◌, length, take, drop, Option, Some, None, refl, sym, ap, subst, ◌∙◌, append_assoc, arith}
-use Rattle.std.proofs.lemmas.List.{length-append, length-take-le, take-append-drop, append-nil}
+use Rattle.std.proofs.Common.{◌≡◌, ℕ, ◌≤◌, ◌<◌, List, [], ◌∷◌, ◌++◌, length, take, drop, refl, sym, ap, ◌∙◌, append_assoc, arith}
+use Rattle.std.proofs.lemmas.List.{length-take-le, take-append-drop, append-nil}
 use Rattle.pl_base.specs.declared.pos.Pos.{Pos}
 use Rattle.pl_lexer.specs.declared.tokens.Token.{Token}
-use Rattle.pl_lexer.specs.Lexemes.{IsLexeme}
 use Rattle.pl_lexer.specs.Scan.{lexeme_len}
 use Rattle.pl_lexer.specs.Tokens.{IsLongest, Cut, NoLexeme, start, moved, place_behind, kind_of, token_at, tokens_of, IsLongNumber, IsLongName, AllShort, Lexed}
 use Rattle.pl_lexer.proofs.Longest.{longest, lexeme_is, lexeme_some}

@@ -1,25 +1,24 @@
 -- What pieces stand for, and what the tokens of a file are like.
-use Rattle.std.proofs.Common.{◌≡◌, ℕ, zero, suc, ◌+◌, ◌^◌, ◌≤◌, ◌<◌, ◌⊎◌, inl, inr, ◌||◌, ◌&&◌, ◌==◌, Bool, true, false, cond, List, [], ◌∷◌, ◌++◌, length, map, Option, Some, None, refl, sym, ap, subst, ◌∙◌, append_assoc, arith}
-use Rattle.std.specs.Prelude.{not, pos, Contains, position, encode_utf8_all, is_some}
-use Rattle.std.specs.Char.{is_ascii_digit, is_ascii_alphabetic, is_ascii_alphanumeric}
+use Rattle.std.proofs.Common.{◌≡◌, ℕ, ◌^◌, ◌≤◌, ◌<◌, inl, inr, ◌==◌, Bool, true, false, cond, List, [], ◌∷◌, ◌++◌, length, map, Option, Some, None, refl, sym, ap, subst, ◌∙◌, append_assoc, arith}
+use Rattle.std.specs.Prelude.{pos, encode_utf8_all, is_some}
+use Rattle.std.specs.Char.{is_ascii_digit}
 use Rattle.std.specs.List.{list_all, cons_option}
-use Rattle.std.specs.Str.{bytes_eq, chars, IsUtf8, all_scalars}
+use Rattle.std.specs.Str.{bytes_eq, chars, all_scalars}
 use Rattle.std.proofs.lemmas.Bool.{eqb-true, and_parts, and_from}
-use Rattle.std.proofs.lemmas.List.{append-nil}
 use Rattle.std.proofs.lemmas.List.Quantifiers.{position-Some}
-use Rattle.std.proofs.lemmas.Str.{encodes-IsAscii, chars-encodes, encodes-chars, scalars-chars}
+use Rattle.std.proofs.lemmas.Str.{chars-encodes, encodes-chars, scalars-chars}
 use Rattle.pl_base.specs.declared.pos.Pos.{Pos}
 use Rattle.pl_readers.specs.Bytes.{value_from}
 use Rattle.pl_readers.specs.Reader.{begins}
 use Rattle.pl_lexer.specs.declared.tokens.Kind.{Kind}
 use Rattle.pl_lexer.specs.declared.tokens.Kind.TheVariants as k
 use Rattle.pl_lexer.specs.declared.tokens.Token.{Token}
-use Rattle.pl_lexer.specs.Lexemes.{is_blank, is_start, is_more, IsBlank, IsIdentifier, IsNumber, IsSymbol, IsLexeme, symbols, signs}
-use Rattle.pl_lexer.specs.Tokens.{sign_or_name, IsLongest, Cut, start, moved, place_behind, sign_number, is_gap, kind_of, token_at, tokens_of, all_tokens, mangled_len, IsLongNumber, IsLongName, AllShort, Lexed, IsCutInto, IsLexed}
+use Rattle.pl_lexer.specs.Lexemes.{is_blank, is_start, IsBlank, IsIdentifier, IsNumber, IsSymbol, IsLexeme, symbols, signs}
+use Rattle.pl_lexer.specs.Tokens.{sign_or_name, Cut, start, moved, place_behind, sign_number, is_gap, kind_of, token_at, tokens_of, all_tokens, mangled_len, IsLongNumber, IsLongName, AllShort, IsLexed}
 use Rattle.pl_lexer.specs.Printing.{kinds_of}
 use Rattle.pl_lexer.specs.Proper.{IsName, IsProper, AreProper}
 use Rattle.pl_lexer.proofs.Numbers.{ascii_symbol}
-use Rattle.pl_lexer.proofs.Symbols.{of_each, first_of}
+use Rattle.pl_lexer.proofs.Symbols.{of_each}
 use Rattle.pl_lexer.proofs.Longest.{start_apart, start_ascii, digit_apart}
 
 -- ---- without places

@@ -1,5 +1,5 @@
 -- The number of a sign: a word begins as an identifier does, and a symbol does not.
-use Rattle.std.proofs.Common.{◌≡◌, ℕ, zero, suc, ◌+◌, ◌≤◌, ◌<◌, ◌||◌, ◌&&◌, ◌==◌, Bool, true, false, cond, List, [], ◌∷◌, ◌++◌, length, Option, Some, None, refl, sym, ap, subst, ◌∙◌, arith}
+use Rattle.std.proofs.Common.{◌≡◌, ℕ, suc, ◌+◌, ◌||◌, ◌&&◌, ◌==◌, Bool, true, false, cond, List, [], ◌∷◌, ◌++◌, length, Some, None, refl, sym, ap, ◌∙◌, arith}
 use Rattle.std.specs.Prelude.{not, nat_lt, Contains, position, encode_utf8_all, option_map}
 use Rattle.std.specs.Char.{is_ascii_alphabetic}
 use Rattle.std.specs.List.{list_all, position_from}
@@ -12,7 +12,7 @@ use Rattle.std.proofs.lemmas.Slice.Eq.{bytes_eq-Decides}
 use Rattle.std.proofs.lemmas.Str.{encodes-IsAscii, encodes_same}
 use Rattle.std.proofs.lemmas.Str.Ascii.{IsAscii-from_all}
 use Rattle.pl_readers.specs.Reader.{begins}
-use Rattle.pl_lexer.specs.Lexemes.{is_start, symbols, words, signs}
+use Rattle.pl_lexer.specs.Lexemes.{is_start, symbols, words}
 use Rattle.pl_lexer.specs.Tokens.{sign_number}
 use Rattle.pl_lexer.proofs.Symbols.{of_each, first_of}
 use Rattle.pl_lexer.proofs.Longest.{start_ascii}

@@ -1,5 +1,5 @@
 -- Bytes have one answer: their tokens, or one refusal.
-use Rattle.std.proofs.Common.{◌≡◌, ◌≢◌, ℕ, ◌+◌, ◌≤◌, ◌<◌, ◌⊎◌, inl, inr, List, [], ◌∷◌, ◌++◌, length, take, drop, Option, Some, None, Result, Ok, Err, refl, sym, ap, subst, ◌∙◌, arith}
+use Rattle.std.proofs.Common.{◌≡◌, ◌≢◌, ℕ, ◌<◌, ◌⊎◌, inl, inr, List, [], ◌∷◌, ◌++◌, length, take, drop, Option, Some, None, Result, Ok, Err, refl, sym, ap, subst, ◌∙◌, arith}
 use Rattle.std.specs.Prelude.{IfOk, IfErr}
 use Rattle.std.specs.Str.{chars, IsUtf8, IsValidUpTo}
 use Rattle.std.proofs.Math.Seq.{take-append_seam, drop-append_seam}
@@ -10,7 +10,7 @@ use Rattle.pl_lexer.specs.declared.tokens.Kind.TheVariants as k
 use Rattle.pl_lexer.specs.declared.tokens.Token.{Token}
 use Rattle.pl_lexer.specs.declared.error.LexError.{LexError}
 use Rattle.pl_lexer.specs.declared.error.LexError.TheVariants as e
-use Rattle.pl_lexer.specs.Tokens.{IsLongest, Cut, NoLexeme, start, place_behind, kind_of, all_tokens, AreTokens, IsLongNumber, IsLongName, AllShort, Lexed, IsLexed, IsRefusal, IsRefusedAt, IsCutInto, IsButForMemory}
+use Rattle.pl_lexer.specs.Tokens.{IsLongest, Cut, NoLexeme, start, place_behind, kind_of, all_tokens, AreTokens, IsLongNumber, IsLongName, AllShort, IsLexed, IsRefusal, IsRefusedAt, IsCutInto, IsButForMemory}
 use Rattle.pl_lexer.proofs.Longest.{lexeme_some}
 
 same_front : (l b l' b' : List ℕ) → l ++ b ≡ l' ++ b' → length l ≡ length l' → (l ≡ l') × (b ≡ b')
@@ -234,10 +234,10 @@ only_tokens bytes cs (Err error) utf8 is found refused ts lexed =
     refused
 
 pub only_refusals : (bytes cs : List ℕ) (r : Result (List Token) LexError) → IsUtf8 bytes → cs ≡ chars bytes → IfOk r (IsCutInto cs) → IfErr r (IsRefusedAt cs)
-    → (other : LexError) → IsRefusal bytes other → other ≢ e.Memory → IsButForMemory r (Err other)
-only_refusals bytes cs (Ok us) utf8 is found refused other refusal certain =
+    → (other : LexError) → other ≢ e.Memory → IsRefusal bytes other → IsButForMemory r (Err other)
+only_refusals bytes cs (Ok us) utf8 is found refused other certain refusal =
     absurd (lexed_not_refused bytes us other certain (utf8, subst (λ (x : List ℕ). IsCutInto x us) is found) refusal)
-only_refusals bytes cs (Err error) utf8 is found refused other refusal certain =
+only_refusals bytes cs (Err error) utf8 is found refused other certain refusal =
     by_memory (λ x. IsRefusedAt cs x → IsButForMemory (Err x) (Err other)) error (λ _. inr refl)
     (λ sure r. inl (ap Err (refused_once bytes error other sure certain (refusal_of bytes error sure utf8 (subst (λ (x : List ℕ). IsRefusedAt x error) is r)) refusal)))
     refused

@@ -1,19 +1,17 @@
 -- Pieces that are apart are lexed again.
-use Rattle.std.proofs.Common.{◌≡◌, ℕ, zero, suc, ◌+◌, ◌-◌, ◌^◌, ◌≤◌, ◌<◌, ◌⊎◌, inl, inr, ◌||◌, ◌&&◌, ◌==◌, Bool, true, false, cond, List, [], ◌∷◌, ◌++◌, length, Option, Some, None, refl, sym, ap, subst, ◌∙◌, arith}
-use Rattle.std.specs.Prelude.{not, nat_le, nat_lt, pos, Contains, encode_utf8_all, is_some}
+use Rattle.std.proofs.Common.{◌≡◌, ℕ, zero, suc, ◌≤◌, ◌⊎◌, inl, inr, ◌||◌, ◌&&◌, ◌==◌, Bool, true, false, List, [], ◌∷◌, ◌++◌, length, Option, Some, None, refl, sym, ap, subst, ◌∙◌, arith}
+use Rattle.std.specs.Prelude.{not, nat_le, nat_lt, Contains, encode_utf8_all, is_some}
 use Rattle.std.specs.Char.{is_ascii_digit, is_ascii_alphabetic, is_ascii_alphanumeric}
 use Rattle.std.specs.List.{list_all, concat}
-use Rattle.std.specs.Str.{chars, IsUtf8, all_scalars}
+use Rattle.std.specs.Str.{chars, all_scalars}
 use Rattle.std.proofs.lemmas.Bool.{and_parts, and_from, leb-true, ltb-true}
 use Rattle.std.proofs.lemmas.Str.{chars-encodes, encodes-IsAscii, scalars-chars}
 use Rattle.std.proofs.Math.Utf8.{low_scalar}
 use Rattle.unicode_ident.proofs.IdentLemmas.{is_xid_continue-ascii}
-use Rattle.pl_readers.specs.Bytes.{value_from}
 use Rattle.pl_readers.specs.Reader.{begins}
 use Rattle.pl_lexer.specs.declared.tokens.Kind.{Kind}
 use Rattle.pl_lexer.specs.declared.tokens.Kind.TheVariants as k
-use Rattle.pl_lexer.specs.declared.tokens.Token.{Token}
-use Rattle.pl_lexer.specs.Lexemes.{is_start, is_more, signs, symbols, words, IsBlank, IsIdentifier, IsNumber, IsSymbol}
+use Rattle.pl_lexer.specs.Lexemes.{is_more, signs, symbols, words, IsIdentifier}
 use Rattle.pl_lexer.specs.Tokens.{Cut, start, place_behind, sign_number, is_gap, kind_of, sign_or_name, all_tokens, IsLongNumber, IsLongName, AllShort, Lexed, IsLexed, mangled_len}
 use Rattle.pl_lexer.specs.Printing.{IsPiece, is_apart, AreApart}
 use Rattle.pl_lexer.specs.Proper.{IsName}

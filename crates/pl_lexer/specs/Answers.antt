@@ -1,5 +1,5 @@
 -- What the parts of the lexer answer.
-use Rattle.std.specs.Prelude.{◌≡◌, ⊤, List, ℕ, Option, Some, None, Result, Ok, Err}
+use Rattle.std.specs.Prelude.{◌≡◌, ⊤, List, ℕ, Option, Result, Ok, Err}
 use Rattle.pl_base.specs.declared.pos.Pos.{Pos}
 use Rattle.pl_lexer.specs.declared.error.LexError.{LexError}
 use Rattle.pl_lexer.specs.declared.error.LexError.TheVariants as e

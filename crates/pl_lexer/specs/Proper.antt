@@ -1,5 +1,5 @@
 -- What the tokens of a file are like.
-use Rattle.std.specs.Prelude.{◌≡◌, ℕ, ◌+◌, ◌^◌, ◌≤◌, ◌<◌, pos, ⊤, List, [], ◌∷◌, length, None}
+use Rattle.std.specs.Prelude.{◌≡◌, ℕ, ◌^◌, ◌≤◌, ◌<◌, pos, ⊤, List, [], ◌∷◌, length, None}
 use Rattle.std.specs.Str.{chars, IsUtf8}
 use Rattle.pl_lexer.specs.declared.tokens.Kind.{Kind}
 use Rattle.pl_lexer.specs.declared.tokens.Kind.TheVariants as k

@@ -1,5 +1,5 @@
 -- Tokens: the text is cut into longest lexemes, and each that is no blank and no comment is a token.
-use Rattle.std.specs.Prelude.{◌≡◌, ℕ, ◌+◌, ◌^◌, ◌≤◌, ◌<◌, pos, ◌⊎◌, ◌||◌, ◌&&◌, ◌==◌, ⊤, Bool, true, false, if◌then◌else◌, List, [], ◌∷◌, ◌++◌, length, fold, sum_by, position, codes, encode_utf8, encode_utf8_all, Option, Some, None, Result, Err}
+use Rattle.std.specs.Prelude.{◌≡◌, ℕ, ◌+◌, ◌^◌, ◌≤◌, ◌<◌, pos, ◌⊎◌, ◌||◌, ◌&&◌, ◌==◌, ⊤, Bool, false, if◌then◌else◌, List, [], ◌∷◌, ◌++◌, length, fold, sum_by, position, encode_utf8, encode_utf8_all, Option, Some, None, Result, Err}
 use Rattle.std.specs.Char.{is_ascii_digit, is_ascii_alphanumeric}
 use Rattle.std.specs.Str.{bytes_eq, chars, IsUtf8, IsValidUpTo}
 use Rattle.pl_base.specs.declared.pos.Pos.{Pos}
@@ -14,7 +14,7 @@ use Rattle.pl_lexer.specs.Lexemes.{is_blank, is_lf, signs, IsLexeme}
 
 -- ---- longest lexemes
 
--- l is the longest lexeme at the front of l and what stands behind it
+-- l is the longest lexeme at the front of the text that goes on behind it
 abbrev pub IsLongest : List ℕ → List ℕ → Type 0
 IsLongest l behind =
     IsLexeme l × ((front back : List ℕ) → l ++ behind ≡ front ++ back → IsLexeme front → length front ≤ length l)
@@ -60,12 +60,12 @@ is_gap [] = false
 is_gap (c ∷ []) = is_blank c
 is_gap (c ∷ d ∷ cs) = is_blank c || ((c == 47) && (d == 47))
 
--- a sign, or a name, which is what is no sign
+-- a sign by its number, or else a name
 abbrev pub sign_or_name : Option ℕ → List ℕ → Kind
 sign_or_name (Some n) l = k.Sign n
 sign_or_name None l = k.Word (encode_utf8_all l)
 
--- what a lexeme stands for, where it is no blank and no comment
+-- what a lexeme stands for: nothing where it is a blank or a comment, else a number, a sign or a name
 abbrev pub kind_of : List ℕ → Option Kind
 kind_of l =
     if is_gap l then None
@@ -105,7 +105,7 @@ abbrev pub IsLongNumber : Option Kind → Type 0
 IsLongNumber (Some (k.Number (pos n))) = 2 ^ 127 ≤ n
 IsLongNumber _ = ⊥
 
--- a name that l spells, of more than 40 characters, or of more than 50 bytes once mangled
+-- a name spelled by the characters l, of more than 40 characters, or of more than 50 bytes once mangled
 abbrev pub IsLongName : List ℕ → Option Kind → Type 0
 IsLongName l (Some (k.Word name)) = (40 < length l) ⊎ (50 < mangled_len l)
 IsLongName l _ = ⊥
@@ -117,7 +117,7 @@ AllShort (l ∷ ls) = (¬ IsLongNumber (kind_of l)) × (¬ IsLongName l (kind_of
 
 -- ---- what lexing answers
 
--- the text is cut up to the rest, and no lexeme so far passes a limit; the rest is at this place
+-- the text is cut into these lexemes up to the rest, which is at this place, and none of them passes a limit
 pub record Lexed (text : List ℕ) (ls : List (List ℕ)) (rest : List ℕ) (p : Pos) : Type 0 where
   pub cut : Cut text ls rest
   pub short : AllShort ls

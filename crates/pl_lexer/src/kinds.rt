@@ -67,13 +67,13 @@ fn begins_number(lexeme: &[char]) -> bool
     }
 }
 
-/// The number that digits spell, where it is below 2^127.
+/// The number that decimal digits spell, where it is below 2^127.
 fn value(digits: &[char]) -> Option<i128>
     ensures { MatchOption result (2 ^ 127 ≤ value_from 0 digits.now) (λ v. v ≡ pos (value_from 0 digits.now)) }
 {
     let mut value: u128 = 0;
     for c in digits {
-        value = grown(value, (*c as u32).saturating_sub(48))?;
+        value = grown(value, (*c as u32).saturating_sub('0' as u32))?;
     }
     Some(value as i128)
 }

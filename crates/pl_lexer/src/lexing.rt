@@ -14,13 +14,17 @@ use crate::scan::lexeme_len;
 use crate::tokens::{Kind, Token, Tokens};
 use std::alloc::{AllocError, Global};
 
-/// The tokens of a file's bytes, with the end as the last.
+/// The tokens of a file's bytes, with the end as the last: the text is cut into the longest lexemes, and each is a token
+/// that is no blank and no comment. Bytes that are no UTF-8 are refused before all else, and then the first place at which
+/// no lexeme begins, a number passes 2^127 - 1, or a name has more than 40 characters or 50 bytes once mangled.
 pub fn lex(alloc: Global, bytes: &[u8]) -> Result<Tokens, LexError>
     requires { length bytes.now < 2 ^ 32 - 1 }
     ensures tokens { IfOk result (spec.IsLexed bytes.now) }
     ensures refusal { IfErr result (spec.IsRefusal bytes.now) }
-    ensures all_tokens { (tokens : List Token) → spec.IsLexed bytes.now tokens → spec.IsButForMemory result (Ok tokens) }
-    ensures all_refusals { (error : LexError) → spec.IsRefusal bytes.now error → error ≢ Memory → spec.IsButForMemory result (Err error) }
+    ensures all_tokens { (tokens : List Token) →
+        spec.IsLexed bytes.now tokens → spec.IsButForMemory result (Ok tokens) }
+    ensures all_refusals { (error : LexError) → error ≢ Memory →
+        spec.IsRefusal bytes.now error → spec.IsButForMemory result (Err error) }
 {
     match std::str::from_utf8(bytes) {
         Err(error) => Err(LexError::BadUtf8(error.valid_up_to() as u32)),

@@ -6,7 +6,9 @@ use std::marker::Model;
 /// What a token is.
 #[derive(Debug, Drop)]
 pub enum Kind {
+    /// A name: an identifier that is no word of the language.
     Word(Name),
+    /// A number, at least 0.
     Number(i128),
     /// A symbol or a word of the language, by its number in the list of signs.
     Sign(u8),
@@ -47,6 +49,7 @@ impl Tokens {
         Tokens { list }
     }
 
+    /// How many tokens there are, the end among them.
     pub fn len(&self) -> u32
         ensures { result ≡ length self.now }
     {

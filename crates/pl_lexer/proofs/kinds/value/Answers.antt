@@ -1,4 +1,4 @@
-use Rattle.std.proofs.Common.{◌≡◌, ◌≤◌, ◌<◌, ◌+◌, ◌*◌, ◌-◌, ◌∷◌, ◌^◌, suc, drop, get_or, sym, ap, ◌∙◌, arith, drop-cons}
+use Rattle.std.proofs.Common.{◌≡◌, ◌≤◌, ◌+◌, ◌*◌, ◌-◌, ◌∷◌, ◌^◌, suc, drop, get_or, sym, ap, ◌∙◌, arith, drop-cons}
 use Rattle.pl_readers.specs.Bytes.{value_from}
 use Rattle.pl_readers.proofs.Exact.{value_grows}
 use Rattle.pl_lexer.proofs.kinds.value.Goals as goal

@@ -1,4 +1,4 @@
-use Rattle.std.proofs.Common.{◌≡◌, sym, ap, ◌∙◌, true}
+use Rattle.std.proofs.Common.{sym, ap, ◌∙◌}
 use Rattle.std.proofs.Common.{Err, inl}
 use Rattle.pl_lexer.specs.declared.error.LexError.TheVariants as e
 use Rattle.pl_lexer.proofs.Once.{only_tokens, only_refusals, refused_once}
@@ -19,7 +19,7 @@ lex_text-requires-clause-scalars c =
     rw (c.as_slice.ensures.value, c.in_ok-characters-in-Ok.ensures) (scalars-chars c.in-Ok.text.now utf8)
 
 pub returns-in-Err-clause-all_refusals : goal.returns-in-Err-clause-all_refusals
-returns-in-Err-clause-all_refusals c error refusal sure =
+returns-in-Err-clause-all_refusals c error sure refusal =
     inl (ap Err (refused_once c.args.bytes.now (e.BadUtf8 c.valid_up_to.result) error (λ h. cc) sure (rw c.valid_up_to.ensures c.in-Err.ensures.cases.1) refusal))
 
 pub returns-in_ok-characters-in-Ok-clause-all_tokens :

@@ -1,5 +1,4 @@
-use Rattle.std.proofs.Common.{◌≡◌, sym, ap, ◌∙◌}
-use Rattle.pl_lexer.specs.Tokens as spec
+use Rattle.std.proofs.Common.{sym, ◌∙◌}
 use Rattle.pl_lexer.proofs.Numbers.{word_number, symbol_number}
 use Rattle.pl_lexer.proofs.signs.sign_number.Goals as goal
 
