@@ -1,8 +1,9 @@
 -- Tokens: the text is cut into longest lexemes, and each that is no blank and no comment is a token.
-use Rattle.std.specs.Prelude.{◌≡◌, ℕ, ◌+◌, ◌^◌, ◌≤◌, ◌<◌, pos, ◌⊎◌, ◌||◌, ◌&&◌, ◌==◌, ⊤, Bool, false, if◌then◌else◌, List, [], ◌∷◌, ◌++◌, length, fold, sum_by, position, encode_utf8, encode_utf8_all, Option, Some, None, Result, Err}
-use Rattle.std.specs.Char.{is_ascii_digit, is_ascii_alphanumeric}
+use Rattle.std.specs.Prelude.{◌≡◌, ℕ, ◌+◌, ◌^◌, ◌≤◌, ◌<◌, pos, ◌⊎◌, ◌||◌, ◌&&◌, ◌==◌, ⊤, Bool, false, if◌then◌else◌, List, [], ◌∷◌, ◌++◌, length, fold, position, encode_utf8, encode_utf8_all, Option, Some, None, Result, Err}
+use Rattle.std.specs.Char.{is_ascii_digit}
 use Rattle.std.specs.Str.{bytes_eq, chars, IsUtf8, IsValidUpTo}
 use Rattle.pl_base.specs.declared.pos.Pos.{Pos}
+use Rattle.pl_base.specs.Mangling.{mangled}
 use Rattle.pl_readers.specs.Bytes.{value_from}
 use Rattle.pl_readers.specs.Reader.{begins}
 use Rattle.pl_lexer.specs.declared.error.LexError.{LexError}
@@ -91,14 +92,9 @@ AreTokens bytes tokens = IsUtf8 bytes × ((ls : List (List ℕ)) × Cut (chars b
 
 -- ---- limits
 
--- how many bytes a character of a name has once mangled: an ASCII letter or digit stays, `_` is doubled, and any other
--- character becomes `_u` and six hexadecimal digits
-abbrev pub mangled_char_len : ℕ → ℕ
-mangled_char_len c = if is_ascii_alphanumeric c then 1 else (if c == 95 then 2 else 8)
-
--- the same of a name
+-- how many bytes a name has once mangled
 abbrev pub mangled_len : List ℕ → ℕ
-mangled_len l = sum_by mangled_char_len l
+mangled_len l = length (mangled l)
 
 -- a number past 2^127 - 1
 abbrev pub IsLongNumber : Option Kind → Type 0

@@ -1,7 +1,8 @@
 //! What a lexeme stands for.
 
-ghost use Rattle.std.specs.Prelude.{◌≡◌, ◌↔◌, ◌⊎◌, ◌+◌, ◌*◌, ◌^◌, ◌<◌, ◌≤◌, pos, length, IsTrue, SomeIff, MatchOption, encode_utf8_all};
+ghost use Rattle.std.specs.Prelude.{◌≡◌, ◌↔◌, ◌⊎◌, ◌+◌, ◌*◌, ◌^◌, ◌<◌, ◌≤◌, pos, length, IsTrue, SomeIff, MatchOption, sum_by, encode_utf8_all};
 ghost use Rattle.std.specs.Char.{is_ascii_digit};
+ghost use Rattle.pl_base.specs.Mangling.{mangled_char};
 ghost use Rattle.pl_readers.specs.Bytes.{value_from};
 ghost use Rattle.pl_readers.specs.Reader as read;
 ghost use Rattle.pl_lexer.specs.Answers.{KindAnswers};
@@ -95,13 +96,13 @@ fn is_long_name(name: &[char]) -> bool
 /// How many bytes a name of so few characters has once mangled.
 fn mangled_len(name: &[char]) -> usize
     requires { length name.now ≤ 40 }
-    ensures { result ≡ spec.mangled_len name.now }
+    ensures { result ≡ sum_by (λ c. length (mangled_char c)) name.now }
 {
     name.iter().map(|c| mangled_char_len(*c)).sum()
 }
 
 fn mangled_char_len(c: char) -> usize
-    ensures value { result ≡ spec.mangled_char_len c }
+    ensures value { result ≡ length (mangled_char c) }
     ensures within { result ≤ 8 }
 {
     match c {
