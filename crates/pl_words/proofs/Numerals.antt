@@ -1,5 +1,5 @@
 -- What a numeral's text parses to.
-use Rattle.std.proofs.Common.{◌≡◌, ℕ, ◌≤◌, ◌<◌, ◌^◌, true, Bool, List, length, Result, Ok, rules, arith}
+use Rattle.std.proofs.Common.{◌≡◌, ℕ, ◌≤◌, ◌<◌, ◌^◌, true, Bool, List, length, Result, Ok, Err, rules, arith, sym, ◌∙◌}
 use Rattle.std.proofs.lemmas.Bool.Decides.{nat_tests}
 use Rattle.std.proofs.lemmas.Str.Parse.{IsNumeralModel, numerals_by_value, parse_gives, digits_value_short}
 use Rattle.std.specs.Char.{is_ascii_digit}
@@ -25,3 +25,7 @@ parsed w r p h =
   let q = parts w h in
   let short : digits_value 10 w < 10 ^ 7 = digits_value_short own w 7 q.digits q.few in
   parse_gives own 32 w r p q.digits q.some (omega (arith, short))
+
+-- so it is not refused
+pub refuted : {E : Type 0} → (w : List ℕ) (r : Result ℕ E) (e : E) → ParsesUnsigned 32 10 w r → is_numeral w ≡ true → r ≡ Err e → ⊥
+refuted w r e p h q = grind (arith, sym q ∙ parsed w r p h)
