@@ -22,9 +22,9 @@ parts w h = record { some = grind (arith, nat_tests); few = grind (arith, nat_te
 -- a numeral parses to its value
 pub parsed : {E : Type 0} → (w : List ℕ) (r : Result ℕ E) → ParsesUnsigned 32 10 w r → is_numeral w ≡ true → r ≡ Ok (digits_value 10 w)
 parsed w r p h =
-  let q = parts w h in
-  let short : digits_value 10 w < 10 ^ 7 = digits_value_short own w 7 q.digits q.few in
-  parse_gives own 32 w r p q.digits q.some (omega (arith, short))
+    let q = parts w h in
+    let short : digits_value 10 w < 10 ^ 7 = digits_value_short own w 7 q.digits q.few in
+    parse_gives own 32 w r p q.digits q.some (omega (arith, short))
 
 -- so it is not refused
 pub refuted : {E : Type 0} → (w : List ℕ) (r : Result ℕ E) (e : E) → ParsesUnsigned 32 10 w r → is_numeral w ≡ true → r ≡ Err e → ⊥

@@ -25,10 +25,10 @@ from_option verb place said now w x rest h p = rw (h, p) refl
 
 pub plain_step : {X : Type 0} → (f : X → List ℕ) (verb : Verb) (place : ℕ) (said now : Said) (xs : List X) (x : X) → 1 ≤ length xs → x ≡ get_or xs 0 x → is_dashed (f x) ≡ false → plain_word (row_of verb).plain place said (f x) ≡ Ok now → from verb place said (map f xs) ≡ from verb (place + 1) now (map f (tail xs))
 plain_step f verb place said now xs x h e d p =
-  ap (λ l. from verb place said (map f l)) (front xs x h e) ∙ from_plain verb place said now (f x) (map f (tail xs)) d p
+    ap (λ l. from verb place said (map f l)) (front xs x h e) ∙ from_plain verb place said now (f x) (map f (tail xs)) d p
 
 pub option_step : {X : Type 0} → (f : X → List ℕ) (verb : Verb) (place : ℕ) (said now : Said) (xs : List X) (x v : X) → 1 ≤ length xs → x ≡ get_or xs 0 x → 1 ≤ length (tail xs) → v ≡ get_or (tail xs) 0 v → is_dashed (f x) ≡ true → option_word (row_of verb) place said (f x) (Some (f v)) ≡ Ok now → from verb place said (map f xs) ≡ from verb (place + 2) now (map f (tail (tail xs)))
 option_step f verb place said now xs x v h e h2 e2 d p =
-  ap (λ l. from verb place said (map f l)) (front xs x h e)
+    ap (λ l. from verb place said (map f l)) (front xs x h e)
     ∙ ap (λ l. from verb place said (f x ∷ map f l)) (front (tail xs) v h2 e2)
     ∙ from_option verb place said now (f x) (f v) (map f (tail (tail xs))) d p

@@ -12,28 +12,28 @@ use Rattle.pl_words.specs.declared.table.Row.{Row}
 -- the command that a word names
 abbrev pub verb_named : List ℕ → Option Verb
 verb_named w =
-  if bytes_eq w (codes "check") then Some Check else
-  if bytes_eq w (codes "emit") then Some Emit else
-  if bytes_eq w (codes "prove") then Some Prove else
-  if bytes_eq w (codes "verify") then Some Verify else
-  if bytes_eq w (codes "fmt") then Some Fmt else
-  if bytes_eq w (codes "ghost") then Some Ghost else
-  if bytes_eq w (codes "run") then Some Run else
-  if bytes_eq w (codes "replay") then Some Replay else
-  if bytes_eq w (codes "go") then Some Go else
-  if bytes_eq w (codes "bench") then Some Bench else
-  if bytes_eq w (codes "races") then Some Races else
-  None
+    if bytes_eq w (codes "check") then Some Check else
+    if bytes_eq w (codes "emit") then Some Emit else
+    if bytes_eq w (codes "prove") then Some Prove else
+    if bytes_eq w (codes "verify") then Some Verify else
+    if bytes_eq w (codes "fmt") then Some Fmt else
+    if bytes_eq w (codes "ghost") then Some Ghost else
+    if bytes_eq w (codes "run") then Some Run else
+    if bytes_eq w (codes "replay") then Some Replay else
+    if bytes_eq w (codes "go") then Some Go else
+    if bytes_eq w (codes "bench") then Some Bench else
+    if bytes_eq w (codes "races") then Some Races else
+    None
 
 -- the option that a word names
 abbrev pub option_named : List ℕ → Option Opt
 option_named w =
-  if bytes_eq w (codes "-o") then Some Output else
-  if bytes_eq w (codes "--steps") then Some Steps else
-  if bytes_eq w (codes "--workers") then Some Workers else
-  if bytes_eq w (codes "--history") then Some History else
-  if bytes_eq w (codes "--jobs") then Some Jobs else
-  None
+    if bytes_eq w (codes "-o") then Some Output else
+    if bytes_eq w (codes "--steps") then Some Steps else
+    if bytes_eq w (codes "--workers") then Some Workers else
+    if bytes_eq w (codes "--history") then Some History else
+    if bytes_eq w (codes "--jobs") then Some Jobs else
+    None
 
 -- what stands behind a command: its words that are no options, whether it has `-o` (and then needs it), whether it has
 -- `--jobs`, and whether it has the options of a run

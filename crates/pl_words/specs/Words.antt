@@ -54,16 +54,16 @@ written place (Some n) = Ok n
 abbrev pub number_at : ℕ → ℕ → List ℕ → Result ℕ WordError
 number_at place most w = written place (number_of most w)
 
--- a word that is no option: a file, or the one number of a command that counts
+-- a word that is no option: a file, or the one number, from 1 to 1,000
 abbrev pub plain_word : Plain → ℕ → Said → List ℕ → Result Said WordError
 plain_word p.File place said w =
-  if is_some said.first then refused ExtraWord place else Ok (record said { first = Some w })
+    if is_some said.first then refused ExtraWord place else Ok (record said { first = Some w })
 plain_word p.TwoFiles place said w =
-  if is_some said.second then refused ExtraWord place else
-  if is_some said.first then Ok (record said { second = Some w }) else Ok (record said { first = Some w })
+    if is_some said.second then refused ExtraWord place else
+    if is_some said.first then Ok (record said { second = Some w }) else Ok (record said { first = Some w })
 plain_word p.Count place said w =
-  if is_some said.count then refused ExtraWord place else
-  next (number_at place 1000 w) (λ n. Ok (record said { count = Some n }))
+    if is_some said.count then refused ExtraWord place else
+    next (number_at place 1_000 w) (λ n. Ok (record said { count = Some n }))
 
 -- the option that a word is, where the command has it
 abbrev pub allowed : Row → ℕ → Option Opt → Result Opt WordError
@@ -75,17 +75,18 @@ abbrev pub value_word : ℕ → Option (List ℕ) → Result (List ℕ) WordErro
 value_word place None = refused MissingValue place
 value_word place (Some value) = if is_dashed value then refused MissingValue place else Ok value
 
--- a text or a number as the value of the option at a place, which was not there before
+-- a text as the value of the option at a place, which had none before
 abbrev pub text_once : ℕ → Option (List ℕ) → List ℕ → Result (List ℕ) WordError
 text_once place before value = if is_some before then refused Repeated place else Ok value
 
+-- the same of a number from 1 to a bound, which stands behind the option
 abbrev pub number_once : ℕ → ℕ → Option ℕ → List ℕ → Result ℕ WordError
 number_once place most before value = if is_some before then refused Repeated place else number_at (place + 1) most value
 
--- the option at a place with its value
+-- the option at a place with its value: steps are 1 to 4,000,000, workers and jobs 1 to 64
 abbrev pub option_value : Opt → ℕ → Said → List ℕ → Result Said WordError
 option_value o.Output place said value = next (text_once place said.output value) (λ x. Ok (record said { output = Some x }))
-option_value o.Steps place said value = next (number_once place 4000000 said.steps value) (λ n. Ok (record said { steps = Some n }))
+option_value o.Steps place said value = next (number_once place 4_000_000 said.steps value) (λ n. Ok (record said { steps = Some n }))
 option_value o.Workers place said value = next (number_once place 64 said.workers value) (λ n. Ok (record said { workers = Some n }))
 option_value o.History place said value = next (text_once place said.history value) (λ x. Ok (record said { history = Some x }))
 option_value o.Jobs place said value = next (number_once place 64 said.jobs value) (λ n. Ok (record said { jobs = Some n }))
@@ -93,24 +94,24 @@ option_value o.Jobs place said value = next (number_once place 64 said.jobs valu
 -- the word at a place that begins with `-`, with the word behind it
 abbrev pub option_word : Row → ℕ → Said → List ℕ → Option (List ℕ) → Result Said WordError
 option_word row place said w behind =
-  next (allowed row place (option_named w)) (λ option.
-  next (value_word place behind) (λ value.
-  option_value option place said value))
+    next (allowed row place (option_named w)) (λ option.
+    next (value_word place behind) (λ value.
+    option_value option place said value))
 
--- what a command needs: it is missing behind the last word
+-- what a command needs: where it is missing, the place is that behind the last word
 abbrev pub needed : {A : Type 0} → ℕ → Option A → Result A WordError
 needed place None = refused MissingWord place
 needed place (Some x) = Ok x
 
--- how a program is to run: at most so many steps, by so many workers, and the file for its history
+-- how a program is run: its steps, its workers and the file for its history
 abbrev pub run_of : Said → RunOpts
-run_of said = record { steps = unwrap_or said.steps 1000000; workers = unwrap_or said.workers 2; history = said.history }
+run_of said = record { steps = unwrap_or said.steps 1_000_000; workers = unwrap_or said.workers 2; history = said.history }
 
 -- two words that a command needs
 abbrev pub both : ℕ → Option (List ℕ) → Option (List ℕ) → Result (List ℕ × List ℕ) WordError
 both place first second = next (needed place first) (λ x. next (needed place second) (λ y. Ok (x, y)))
 
--- the command, at the end of so many words
+-- the command, at the end of so many words: what is not written is one job, 1,000,000 steps, two workers and no history
 abbrev pub made : Verb → ℕ → Said → Result Command WordError
 made v.Check place said = next (needed place said.first) (λ file. Ok (c.Check file (unwrap_or said.jobs 1)))
 made v.Emit place said = next (both place said.first said.output) (λ x. Ok (c.Emit x.0 x.1))
@@ -124,18 +125,19 @@ made v.Go place said = next (both place said.first said.output) (λ x. Ok (c.Go 
 made v.Bench place said = next (needed place said.count) (λ n. Ok (c.Bench n))
 made v.Races place said = next (both place said.first said.second) (λ x. Ok (c.Races x.0 x.1))
 
--- the words from a place on
+-- the words from a place on: an option takes the word behind it too, and a last word has none behind it
 abbrev pub from : Verb → ℕ → Said → List (List ℕ) → Result Command WordError
 from verb place said [] = made verb place said
 from verb place said (w ∷ []) =
-  if is_dashed w
-  then next (option_word (row_of verb) place said w None) (λ now. made verb (place + 1) now)
-  else next (plain_word (row_of verb).plain place said w) (λ now. made verb (place + 1) now)
+    if is_dashed w
+    then next (option_word (row_of verb) place said w None) (λ now. made verb (place + 1) now)
+    else next (plain_word (row_of verb).plain place said w) (λ now. made verb (place + 1) now)
 from verb place said (w ∷ x ∷ rest) =
-  if is_dashed w
-  then next (option_word (row_of verb) place said w (Some x)) (λ now. from verb (place + 2) now rest)
-  else next (plain_word (row_of verb).plain place said w) (λ now. from verb (place + 1) now (x ∷ rest))
+    if is_dashed w
+    then next (option_word (row_of verb) place said w (Some x)) (λ now. from verb (place + 2) now rest)
+    else next (plain_word (row_of verb).plain place said w) (λ now. from verb (place + 1) now (x ∷ rest))
 
+-- the words behind the first
 abbrev pub behind : Option Verb → List (List ℕ) → Result Command WordError
 behind None rest = refused UnknownCommand 0
 behind (Some verb) rest = from verb 1 nothing rest

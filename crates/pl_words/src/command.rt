@@ -61,11 +61,12 @@ pub enum UsageKind {
 }
 
 /// Why there is no command.
-#[derive(Debug)]
+#[derive(Clone, Copy, Debug, PartialEq, Eq)]
 pub enum WordError {
     /// The first wrong word, by its place from 0. An option without a value stands at the option's place, and what is
     /// missing behind the last word.
     Usage(UsageKind, u32),
+    /// Memory ran out.
     Memory,
 }
 

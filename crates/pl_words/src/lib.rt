@@ -10,3 +10,6 @@ mod words;
 
 pub use command::{Command, RunOpts, UsageKind, WordError};
 pub use words::read_words;
+
+#[cfg(test)]
+mod tests;

@@ -12,7 +12,9 @@ use pl_base::{Memory, Name};
 use std::alloc::Global;
 
 const DEFAULT_STEPS: u32 = 1_000_000;
+
 const DEFAULT_WORKERS: u32 = 2;
+
 const DEFAULT_JOBS: u32 = 1;
 
 /// A text that a command needs.

@@ -10,8 +10,11 @@ use crate::numbers::number_of;
 use crate::table::{Opt, Plain, Row, option_named};
 
 const MOST_STEPS: u32 = 4_000_000;
+
 const MOST_WORKERS: u32 = 64;
+
 const MOST_JOBS: u32 = 64;
+
 const MOST_COUNT: u32 = 1_000;
 
 /// What the words behind the command said so far.
@@ -128,11 +131,7 @@ fn value_word<'a>(place: u32, behind: Option<&'a str>) -> Result<&'a str, WordEr
     }
 }
 
-fn text_once<'a>(
-    place: u32,
-    before: Option<&'a str>,
-    value: &'a str,
-) -> Result<&'a str, WordError>
+fn text_once<'a>(place: u32, before: Option<&'a str>, value: &'a str) -> Result<&'a str, WordError>
     ensures { TellsText result (rule.text_once place (option_copied before.entry) value.now) }
 {
     if before.is_some() {
@@ -141,12 +140,7 @@ fn text_once<'a>(
     Ok(value)
 }
 
-fn number_once(
-    place: u32,
-    most: u32,
-    before: Option<u32>,
-    value: &str,
-) -> Result<u32, WordError>
+fn number_once(place: u32, most: u32, before: Option<u32>, value: &str) -> Result<u32, WordError>
     requires { place < 100 }
     ensures { result ≡ rule.number_once place most before value.now }
 {

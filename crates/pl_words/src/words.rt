@@ -15,7 +15,7 @@ fn behind(alloc: Global, verb: Verb, words: &[String]) -> Result<Command, WordEr
 {
     let row = verb.row();
     let mut read = NOTHING;
-    // At most two plain words and five options with their values are taken, so no place is above 13.
+    // Each word that is taken fills a field of its own, so no place is above 14.
     let mut place = 1;
     let mut rest = words;
     while let [word, after @ ..] = rest {
