@@ -1,5 +1,5 @@
 -- How many words are taken at most.
-use Rattle.std.proofs.Common.{ℕ, ◌≤◌, Option, Some, None, arith}
+use Rattle.std.proofs.Common.{◌≤◌, Option, Some, None, arith}
 use Rattle.pl_words.specs.Steps.{one, taken}
 use Rattle.pl_words.specs.Words.{Said}
 

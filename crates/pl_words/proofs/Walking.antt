@@ -1,9 +1,9 @@
 -- One step of the reader is one step of the rule.
-use Rattle.std.proofs.Common.{◌≡◌, ℕ, ◌+◌, ◌-◌, ◌≤◌, Bool, true, false, List, [], ◌∷◌, Option, Some, None, Result, Ok, length, take, drop, get_or, map, refl, sym, ap, ◌∙◌, arith}
+use Rattle.std.proofs.Common.{◌≡◌, ℕ, ◌+◌, ◌-◌, ◌≤◌, true, false, List, [], ◌∷◌, Some, Ok, length, take, drop, get_or, map, refl, ap, ◌∙◌, arith}
 use Rattle.std.proofs.lemmas.Grind.{common_steps}
 use Rattle.pl_words.specs.declared.table.Verb.{Verb}
 use Rattle.pl_words.specs.Table.{row_of}
-use Rattle.pl_words.specs.Words.{Said, from, next, is_dashed, plain_word, option_word}
+use Rattle.pl_words.specs.Words.{Said, from, is_dashed, plain_word, option_word}
 
 -- the list behind the first element, as a slice pattern gives it
 abbrev tail : {X : Type 0} → List X → List X

@@ -2,7 +2,7 @@
 ghost use Rattle.std.specs.Prelude.{◌≡◌, ◌+◌, ◌<◌, IfOk, Err, Option, map, option_map, string_bytes};
 ghost use Rattle.std.specs.Option.{option_copied};
 ghost use Rattle.pl_words.specs.Words as rule;
-ghost use Rattle.pl_words.specs.Table.{option_named as option_named_of};
+ghost use Rattle.pl_words.specs.Table as table;
 ghost use Rattle.pl_words.specs.Steps.{TellsRead, TellsText, said_of, taken};
 
 use crate::command::{UsageKind, WordError};
@@ -114,7 +114,7 @@ pub fn plain_word<'a>(
 }
 
 fn allowed(row: Row, place: u32, word: &str) -> Result<Opt, WordError>
-    ensures { result ≡ rule.allowed row place (option_named_of word.now) }
+    ensures { result ≡ rule.allowed row place (table.option_named word.now) }
 {
     match option_named(word) {
         Some(option) if row.has(option) => Ok(option),

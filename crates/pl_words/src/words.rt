@@ -1,7 +1,8 @@
 // The command of all the words.
-ghost use Rattle.std.specs.Prelude.{map, string_bytes};
+ghost use Rattle.std.specs.Prelude.{IfOk, map, string_bytes};
 ghost use Rattle.pl_words.specs.Words as rule;
 ghost use Rattle.pl_words.specs.Words.{Tells};
+ghost use Rattle.pl_words.specs.Ranges.{IsInRange};
 
 use crate::command::{Command, UsageKind, WordError};
 use crate::making::made;
@@ -54,7 +55,8 @@ fn behind(alloc: Global, verb: Verb, words: &[String]) -> Result<Command, WordEr
 /// [`WordError::Usage`] says why the first wrong word is refused, and its place from 0. Of several reasons at one word
 /// the first in the order of [`UsageKind`] is told.
 pub fn read_words(alloc: Global, words: &[String]) -> Result<Command, WordError>
-    ensures { Tells result (rule.command_of (map string_bytes words.now)) }
+    ensures told { Tells result (rule.command_of (map string_bytes words.now)) }
+    ensures in_range { IfOk result IsInRange }
 {
     match words {
         [] => refused(UsageKind::NoCommand, 0),

@@ -1,5 +1,4 @@
-use Rattle.std.proofs.Common.{◌≡◌, true, Ok, Err, sym, ◌∙◌, ap}
-use Rattle.std.specs.Str.Parse.{digits_value}
+use Rattle.std.proofs.Common.{◌≡◌, true, sym, ◌∙◌, ap}
 use Rattle.pl_words.specs.Numbers.{is_numeral}
 use Rattle.pl_words.proofs.Numerals.{refuted}
 use Rattle.pl_words.proofs.numbers.number_of.Goals as goal
