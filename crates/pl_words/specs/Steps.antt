@@ -15,6 +15,11 @@ abbrev pub TellsRead : Result Read WordError → Result Said WordError → Type 
 TellsRead (Ok r) told = told ≡ Ok (said_of r)
 TellsRead (Err r) told = told ≡ Err r
 
+-- the same of a text
+abbrev pub TellsText : Result (Bor (List ℕ)) WordError → Result (List ℕ) WordError → Type 0
+TellsText (Ok text) told = told ≡ Ok text.now
+TellsText (Err r) told = told ≡ Err r
+
 -- one word or option that was said
 abbrev pub one : {A : Type 0} → Option A → ℕ
 one None = 0
@@ -23,8 +28,3 @@ one (Some x) = 1
 -- how many words were taken: one for each plain word and two for each option
 abbrev pub taken : Said → ℕ
 taken s = one s.first + one s.second + one s.count + 2 * (one s.output + one s.steps + one s.workers + one s.history + one s.jobs)
-
--- the same of a text
-abbrev pub TellsText : Result (Bor (List ℕ)) WordError → Result (List ℕ) WordError → Type 0
-TellsText (Ok text) told = told ≡ Ok text.now
-TellsText (Err r) told = told ≡ Err r

@@ -17,7 +17,7 @@ use Rattle.pl_words.specs.declared.table.Row.{Row}
 use Rattle.pl_words.specs.Table.{verb_named, option_named, row_of, has}
 use Rattle.pl_words.specs.Numbers.{number_of}
 
--- what the words behind the command said so far
+-- what the words behind the command said so far: one file or two, or a count, and the value of each option
 pub record Said : Type 0 where
   pub first : Option (List ℕ)
   pub second : Option (List ℕ)

@@ -79,36 +79,27 @@ pub fn plain_word<'a>(
             if read.first.is_some() {
                 return refused(UsageKind::ExtraWord, place);
             }
-            Ok(Read {
-                first: Some(word),
-                ..read
-            })
+            let first = Some(word);
+            Ok(Read { first, ..read })
         }
         Plain::TwoFiles => {
             if read.second.is_some() {
                 return refused(UsageKind::ExtraWord, place);
             }
             if read.first.is_some() {
-                Ok(Read {
-                    second: Some(word),
-                    ..read
-                })
+                let second = Some(word);
+                Ok(Read { second, ..read })
             } else {
-                Ok(Read {
-                    first: Some(word),
-                    ..read
-                })
+                let first = Some(word);
+                Ok(Read { first, ..read })
             }
         }
         Plain::Count => {
             if read.count.is_some() {
                 return refused(UsageKind::ExtraWord, place);
             }
-            let number = number_at(place, MOST_COUNT, word)?;
-            Ok(Read {
-                count: Some(number),
-                ..read
-            })
+            let count = Some(number_at(place, MOST_COUNT, word)?);
+            Ok(Read { count, ..read })
         }
     }
 }
@@ -162,39 +153,24 @@ fn option_value<'a>(
 {
     match option {
         Opt::Output => {
-            let output = text_once(place, read.output, value)?;
-            Ok(Read {
-                output: Some(output),
-                ..read
-            })
+            let output = Some(text_once(place, read.output, value)?);
+            Ok(Read { output, ..read })
         }
         Opt::Steps => {
-            let steps = number_once(place, MOST_STEPS, read.steps, value)?;
-            Ok(Read {
-                steps: Some(steps),
-                ..read
-            })
+            let steps = Some(number_once(place, MOST_STEPS, read.steps, value)?);
+            Ok(Read { steps, ..read })
         }
         Opt::Workers => {
-            let workers = number_once(place, MOST_WORKERS, read.workers, value)?;
-            Ok(Read {
-                workers: Some(workers),
-                ..read
-            })
+            let workers = Some(number_once(place, MOST_WORKERS, read.workers, value)?);
+            Ok(Read { workers, ..read })
         }
         Opt::History => {
-            let history = text_once(place, read.history, value)?;
-            Ok(Read {
-                history: Some(history),
-                ..read
-            })
+            let history = Some(text_once(place, read.history, value)?);
+            Ok(Read { history, ..read })
         }
         Opt::Jobs => {
-            let jobs = number_once(place, MOST_JOBS, read.jobs, value)?;
-            Ok(Read {
-                jobs: Some(jobs),
-                ..read
-            })
+            let jobs = Some(number_once(place, MOST_JOBS, read.jobs, value)?);
+            Ok(Read { jobs, ..read })
         }
     }
 }
