@@ -1,0 +1,14 @@
+//! The one text of a C program.
+#![tactic(auto)]
+
+mod exprs;
+mod lines;
+mod pieces;
+mod prelude_text;
+mod program;
+mod simple;
+mod started;
+mod stmts;
+mod write;
+
+pub use write::write_c;
