@@ -26,27 +26,33 @@ or-false false = refl
 
 module _ {K S : Type 0} (text : K → Name) where
   pub adds_one : (a b : HashSet K S) (key : K) → ((q : K) → has_name text b (text q) ≡ cond (bytes_eq (text key) (text q)) true (has_name text a (text q))) → AddsNames text a b (text key ∷ [])
-  adds_one a b key h = record { each = λ q.
-    put_test (has_name text b (text q)) (has_name text a (text q)) (bytes_eq (text q) (text key))
-    (h q ∙ ap (λ t. cond t true (has_name text a (text q))) (nat_list_eq_equiv.symm (text key) (text q))) }
+  adds_one a b key h = record {
+    each = λ q.
+        put_test (has_name text b (text q)) (has_name text a (text q)) (bytes_eq (text q) (text key))
+        (h q ∙ ap (λ t. cond t true (has_name text a (text q))) (nat_list_eq_equiv.symm (text key) (text q)));
+  }
 
   pub adds_none : (a : HashSet K S) → AddsNames text a a []
   adds_none a = record { each = λ q. sym (or-false (has_name text a (text q))) }
 
   -- some names and then others
   pub adds_more : (a b c : HashSet K S) (xs ys : List Name) → AddsNames text a b xs → AddsNames text b c ys → AddsNames text a c (xs ++ ys)
-  adds_more a b c xs ys h k = record { each = λ q. let t = bytes_eq (text q) in
-    k.each q ∙ ap (λ v. v || list_any t ys) (h.each q) ∙ or_assoc (has_name text a (text q)) (list_any t xs) (list_any t ys)
-    ∙ ap (λ v. has_name text a (text q) || v) (sym (list_any-append t xs ys)) }
+  adds_more a b c xs ys h k = record {
+    each = λ q. let t = bytes_eq (text q) in
+        k.each q ∙ ap (λ v. v || list_any t ys) (h.each q) ∙ or_assoc (has_name text a (text q)) (list_any t xs) (list_any t ys)
+        ∙ ap (λ v. has_name text a (text q) || v) (sym (list_any-append t xs ys));
+  }
 
   -- before a loop over names, at a step of it, and behind it
   pub leads_first : (a : HashSet K S) (all : List Name) → Leads text a a all all
   leads_first a all = record { each = λ q. refl }
 
   pub leads_on : (old a b : HashSet K S) (all xs left : List Name) → Leads text old a all (xs ++ left) → AddsNames text a b xs → Leads text old b all left
-  leads_on old a b all xs left h k = record { each = λ q. let t = bytes_eq (text q) in
-    ap (λ v. v || list_any t left) (k.each q) ∙ or_assoc (has_name text a (text q)) (list_any t xs) (list_any t left)
-    ∙ ap (λ v. has_name text a (text q) || v) (sym (list_any-append t xs left)) ∙ h.each q }
+  leads_on old a b all xs left h k = record {
+    each = λ q. let t = bytes_eq (text q) in
+        ap (λ v. v || list_any t left) (k.each q) ∙ or_assoc (has_name text a (text q)) (list_any t xs) (list_any t left)
+        ∙ ap (λ v. has_name text a (text q) || v) (sym (list_any-append t xs left)) ∙ h.each q;
+  }
 
   pub leads_last : (old a : HashSet K S) (all : List Name) → Leads text old a all [] → AddsNames text old a all
   leads_last old a all h = record { each = λ q. sym (or-false (has_name text a (text q))) ∙ h.each q }

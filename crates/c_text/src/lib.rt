@@ -12,3 +12,6 @@ mod stmts;
 mod write;
 
 pub use write::write_c;
+
+#[cfg(test)]
+mod tests;

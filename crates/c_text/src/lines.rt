@@ -7,8 +7,8 @@ ghost use Rattle.c_text.specs.Pieces.{piece_text};
 
 use crate::exprs::{put_call, put_cell, put_expr, put_field};
 use crate::pieces::{
-    put, put_argument_name, put_arguments_name, put_function_name, put_indent, put_local, put_member_name, put_starter_name,
-    put_struct_name, put_type,
+    put, put_argument_name, put_arguments_name, put_function_name, put_indent, put_local,
+    put_member_name, put_starter_name, put_struct_name, put_type,
 };
 use c_syntax::{CCell, CExpr, CType, Local};
 use pl_base::{Memory, Name};

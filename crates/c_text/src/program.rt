@@ -56,7 +56,10 @@ fn put_head(out: &mut Vec<u8>, function: &CFun) -> Result<(), Memory>
     ensures { OnOk result (out.new.items ≡ out.old.items ++ text.head_text (plain_fun function.now)) }
 {
     put(out, b"static ")?;
-    let start = [Piece::Type(&function.result), Piece::Function(&function.name)];
+    let start = [
+        Piece::Type(&function.result),
+        Piece::Function(&function.name),
+    ];
     put_pieces(out, &start, "(")?;
     put_params(out, function.params.as_slice())?;
     put(out, b")")
@@ -124,7 +127,11 @@ fn put_arguments_taken(out: &mut Vec<u8>, name: &Name) -> Result<(), Memory>
         text.statement 1 (text.arguments_name name.now ∷ codes " c = *q" ∷ []) ∷ [])
         (text.statement 1 (codes "free(q)" ∷ []))) }
 {
-    let head = [Piece::Text("static int "), Piece::Starter(name), Piece::Text("(void *p) {")];
+    let head = [
+        Piece::Text("static int "),
+        Piece::Starter(name),
+        Piece::Text("(void *p) {"),
+    ];
     put_line(out, 0, &head)?;
     put_statement(out, 1, &[Piece::Arguments(name), Piece::Text(" *q = p")])?;
     put_statement(out, 1, &[Piece::Arguments(name), Piece::Text(" c = *q")])?;

@@ -58,7 +58,14 @@ fn put_forked(out: &mut Vec<u8>, level: u32, f: &Name) -> Result<(), Memory>
     put_statement(out, level, &pieces)
 }
 
-fn put_par<'a>(out: &mut Vec<u8>, level: u32, f: &'a Name, args: &'a [CExpr], g: &'a Name, others: &'a [CExpr]) -> Result<(), Memory>
+fn put_par<'a>(
+    out: &mut Vec<u8>,
+    level: u32,
+    f: &'a Name,
+    args: &'a [CExpr],
+    g: &'a Name,
+    others: &'a [CExpr],
+) -> Result<(), Memory>
     requires { level + 1 ≤ deepest }
     ensures { OnOk result (out.new.items ≡ out.old.items ++ stmt_text level (t.Par f.now (map plain_expr args.now) g.now (map plain_expr others.now))) }
 {
