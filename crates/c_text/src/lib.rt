@@ -3,10 +3,10 @@
 
 mod exprs;
 mod lines;
+mod one_line;
 mod pieces;
 mod prelude_text;
 mod program;
-mod simple;
 mod started;
 mod stmts;
 mod write;

@@ -1,7 +1,7 @@
 //! Structures, functions and whole programs.
 
 ghost use Rattle.std.specs.Prelude.{◌≡◌, ◌++◌, [], ◌∷◌, OnOk, codes, flat_map};
-ghost use Rattle.c_syntax.specs.Forms.{IsFun};
+ghost use Rattle.c_syntax.specs.Forms.{IsFunForm};
 ghost use Rattle.c_syntax.specs.Plain.{plain_fun};
 ghost use Rattle.c_syntax.specs.Text as text;
 
@@ -73,7 +73,7 @@ pub(crate) fn put_prototype(out: &mut Vec<u8>, function: &CFun) -> Result<(), Me
 }
 
 pub(crate) fn put_fun(out: &mut Vec<u8>, function: &CFun) -> Result<(), Memory>
-    requires { IsFun (plain_fun function.now) }
+    requires { IsFunForm (plain_fun function.now) }
     ensures { OnOk result (out.new.items ≡ out.old.items ++ text.fun_text (plain_fun function.now)) }
 {
     put_head(out, function)?;
@@ -84,7 +84,7 @@ pub(crate) fn put_fun(out: &mut Vec<u8>, function: &CFun) -> Result<(), Memory>
 
 /// A member for each argument of a thread's first call.
 fn put_argument_members(out: &mut Vec<u8>, params: &[CParam]) -> Result<(), Memory>
-    ensures { OnOk result (out.new.items ≡ out.old.items ++ text.arguments_text 1 params.now) }
+    ensures { OnOk result (out.new.items ≡ out.old.items ++ text.argument_members 1 params.now) }
 {
     for (i, param) in params.iter().enumerate() {
         let pieces = [Piece::Type(&param.kind), Piece::Argument(i as u64 + 1)];
@@ -104,8 +104,8 @@ fn put_arguments_struct(out: &mut Vec<u8>, function: &CFun) -> Result<(), Memory
 }
 
 /// The arguments that were handed over, with commas between them.
-fn put_handed_over(out: &mut Vec<u8>, params: &[CParam]) -> Result<(), Memory>
-    ensures { OnOk result (out.new.items ≡ out.old.items ++ text.commas (text.handed_over 1 params.now)) }
+fn put_handed_arguments(out: &mut Vec<u8>, params: &[CParam]) -> Result<(), Memory>
+    ensures { OnOk result (out.new.items ≡ out.old.items ++ text.commas (text.handed_arguments 1 params.now)) }
 {
     let [_, others @ ..] = params else {
         return Ok(());
@@ -140,11 +140,11 @@ fn put_arguments_taken(out: &mut Vec<u8>, name: &Name) -> Result<(), Memory>
 
 /// A starter's call.
 fn put_first_call(out: &mut Vec<u8>, function: &CFun) -> Result<(), Memory>
-    ensures { OnOk result (out.new.items ≡ out.old.items ++ text.statement 1 (text.function_name function.now.name ∷ codes "(" ∷ text.commas (text.handed_over 1 function.now.params) ∷ codes ")" ∷ [])) }
+    ensures { OnOk result (out.new.items ≡ out.old.items ++ text.statement 1 (text.function_name function.now.name ∷ codes "(" ∷ text.commas (text.handed_arguments 1 function.now.params) ∷ codes ")" ∷ [])) }
 {
     put(out, b"  ")?;
     put_pieces(out, &[Piece::Function(&function.name)], "(")?;
-    put_handed_over(out, function.params.as_slice())?;
+    put_handed_arguments(out, function.params.as_slice())?;
     put(out, b");\n")
 }
 

@@ -3,11 +3,11 @@
 ghost use Rattle.std.specs.Prelude.{◌≡◌, ◌++◌, [], ◌∷◌, ◌+◌, ◌≤◌, OnOk, map, codes};
 ghost use Rattle.c_syntax.specs.Forms.{deepest, stmt_depth, stmts_depth};
 ghost use Rattle.c_syntax.specs.Plain.{plain_expr, plain_stmt, plain_stmts};
-ghost use Rattle.c_syntax.specs.Text.{arguments_name, expr_text, hand_over, joined, line, starter_name, statement, stmt_text, stmts_text};
+ghost use Rattle.c_syntax.specs.Text.{arguments_name, expr_text, argument_lines, joined, line, starter_name, statement, stmt_text, stmts_text};
 ghost use Rattle.c_syntax.specs.Tree as t;
 
 use crate::lines::{Piece, put_line, put_statement};
-use crate::simple::{
+use crate::one_line::{
     put_acquire, put_atomic_load, put_atomic_store, put_call, put_call_let, put_cas, put_free,
     put_let, put_load, put_new, put_new_array, put_new_atomic, put_new_lock, put_new_struct,
     put_print, put_read, put_release, put_return, put_store,
@@ -16,8 +16,8 @@ use c_syntax::{CExpr, CStmt};
 use pl_base::{Memory, Name};
 
 /// A line for each argument of a thread's first call.
-fn put_handed_over(out: &mut Vec<u8>, level: u32, args: &[CExpr]) -> Result<(), Memory>
-    ensures { OnOk result (out.new.items ≡ out.old.items ++ hand_over level 1 (map plain_expr args.now)) }
+fn put_argument_lines(out: &mut Vec<u8>, level: u32, args: &[CExpr]) -> Result<(), Memory>
+    ensures { OnOk result (out.new.items ≡ out.old.items ++ argument_lines level 1 (map plain_expr args.now)) }
 {
     for (i, e) in args.iter().enumerate() {
         let pieces = [
@@ -70,7 +70,7 @@ fn put_par<'a>(
     ensures { OnOk result (out.new.items ≡ out.old.items ++ stmt_text level (t.Par f.now (map plain_expr args.now) g.now (map plain_expr others.now))) }
 {
     put_thread_opened(out, level, f)?;
-    put_handed_over(out, level + 1, args)?;
+    put_argument_lines(out, level + 1, args)?;
     put_forked(out, level + 1, f)?;
     put_call(out, level + 1, g, others)?;
     put_statement(out, level + 1, &[Piece::Text("p_join(t)")])?;

@@ -2,7 +2,7 @@
 
 ghost use Rattle.std.specs.Prelude.{◌≡◌, ◌++◌, [], ◌∷◌, List, IfOk, OnOk, filter, flat_map, map};
 ghost use Rattle.std.specs.List.{AllByRecursion};
-ghost use Rattle.c_syntax.specs.Forms.{IsFun, IsProgram};
+ghost use Rattle.c_syntax.specs.Forms.{IsFunForm, IsProgramForm};
 ghost use Rattle.c_syntax.specs.Plain.{plain_fun, plain_program};
 ghost use Rattle.c_syntax.specs.Tree.{Fun};
 ghost use Rattle.c_text.specs.Names.{HasNames};
@@ -58,7 +58,7 @@ fn put_threads(out: &mut Vec<u8>, funs: &[CFun]) -> Result<(), Memory>
 }
 
 fn put_funs(out: &mut Vec<u8>, funs: &[CFun]) -> Result<(), Memory>
-    requires { AllByRecursion IsFun (map plain_fun funs.now) }
+    requires { AllByRecursion IsFunForm (map plain_fun funs.now) }
     ensures { OnOk result (out.new.items ≡ out.old.items ++ flat_map fun_text (map plain_fun funs.now)) }
 {
     for function in funs {
@@ -71,7 +71,7 @@ fn put_funs(out: &mut Vec<u8>, funs: &[CFun]) -> Result<(), Memory>
 /// threads, the functions, and the fixed `main`. Its bytes are ASCII. The program nests at most 128 levels deep.
 #[tactic(auto, unfolding(c_syntax::specs::Text::program_text))]
 pub fn write_c(alloc: Global, program: &CProgram) -> Result<Vec<u8>, Memory>
-    requires { IsProgram (plain_program program.now) }
+    requires { IsProgramForm (plain_program program.now) }
     ensures { IfOk result (λ bytes. bytes.items ≡ program_text (plain_program program.now)) }
 {
     let funs = program.funs.as_slice();

@@ -2,7 +2,7 @@
 
 ghost use Rattle.std.specs.Prelude.{◌≡◌, ◌≤◌, false, IsTrue, map};
 ghost use Rattle.std.specs.List.{AllByRecursion};
-ghost use Rattle.c_syntax.specs.Forms.{AreStmts, HasLiterals, IsAboveZero, IsCell, IsExpr, IsFun, IsInit, IsMade, IsProgram, IsStmt, IsStruct, AreLoads, expr_depth, stmt_depth, stmts_depth};
+ghost use Rattle.c_syntax.specs.Forms.{AreStmtForms, HasLiterals, IsAboveZero, IsCellForm, IsExprForm, IsFunForm, IsInitForm, IsMade, IsProgramForm, IsStmtForm, IsStructForm, AreLoads, expr_depth, stmt_depth, stmts_depth};
 ghost use Rattle.c_syntax.specs.Tree as t;
 ghost use Rattle.c_syntax.specs.Plain.{plain_cell, plain_expr, plain_fun, plain_init, plain_program, plain_stmt, plain_stmts};
 
@@ -31,13 +31,13 @@ fn nests(e: &CExpr, room: u32) -> bool
 }
 
 fn is_expr(e: &CExpr) -> bool
-    ensures { IsTrue result → IsExpr (plain_expr e.now) }
+    ensures { IsTrue result → IsExprForm (plain_expr e.now) }
 {
     nests(e, 128)
 }
 
 fn are_exprs(list: &[CExpr]) -> bool
-    ensures { IsTrue result → AllByRecursion IsExpr (map plain_expr list.now) }
+    ensures { IsTrue result → AllByRecursion IsExprForm (map plain_expr list.now) }
 {
     for e in list {
         if !is_expr(e) {
@@ -48,7 +48,7 @@ fn are_exprs(list: &[CExpr]) -> bool
 }
 
 fn is_cell(cell: &CCell) -> bool
-    ensures { IsTrue result → IsCell (plain_cell cell.now) }
+    ensures { IsTrue result → IsCellForm (plain_cell cell.now) }
 {
     match cell {
         CCell::At(_, index) => is_expr(index),
@@ -57,7 +57,7 @@ fn is_cell(cell: &CCell) -> bool
 }
 
 fn are_inits(list: &[CInit]) -> bool
-    ensures { IsTrue result → AllByRecursion IsInit (map plain_init list.now) }
+    ensures { IsTrue result → AllByRecursion IsInitForm (map plain_init list.now) }
 {
     for init in list {
         if !is_expr(&init.value) {
@@ -92,7 +92,7 @@ fn are_loads(list: &[CStmt]) -> bool
 
 #[cycle(forms)]
 fn is_stmt(s: &CStmt, room: u32) -> bool
-    ensures forms { IsTrue result → IsStmt (plain_stmt s.now) }
+    ensures forms { IsTrue result → IsStmtForm (plain_stmt s.now) }
     ensures depth { IsTrue result → stmt_depth (plain_stmt s.now) ≤ room }
 {
     match s {
@@ -136,7 +136,7 @@ fn is_stmt(s: &CStmt, room: u32) -> bool
 
 #[cycle(forms)]
 fn are_stmts(list: &[CStmt], room: u32) -> bool
-    ensures forms { IsTrue result → AreStmts (plain_stmts list.now) }
+    ensures forms { IsTrue result → AreStmtForms (plain_stmts list.now) }
     ensures depth { IsTrue result → stmts_depth (plain_stmts list.now) ≤ room }
 {
     for s in list {
@@ -148,13 +148,13 @@ fn are_stmts(list: &[CStmt], room: u32) -> bool
 }
 
 fn is_fun(function: &CFun) -> bool
-    ensures { IsTrue result → IsFun (plain_fun function.now) }
+    ensures { IsTrue result → IsFunForm (plain_fun function.now) }
 {
     are_stmts(function.body.as_slice(), 127)
 }
 
 fn are_funs(funs: &[CFun]) -> bool
-    ensures { IsTrue result → AllByRecursion IsFun (map plain_fun funs.now) }
+    ensures { IsTrue result → AllByRecursion IsFunForm (map plain_fun funs.now) }
 {
     for function in funs {
         if !is_fun(function) {
@@ -165,13 +165,13 @@ fn are_funs(funs: &[CFun]) -> bool
 }
 
 fn is_struct(structure: &CStruct) -> bool
-    ensures { IsTrue result → IsStruct structure.now }
+    ensures { IsTrue result → IsStructForm structure.now }
 {
     structure.members.as_slice().len() > 0
 }
 
 fn are_structs(structs: &[CStruct]) -> bool
-    ensures { IsTrue result → AllByRecursion IsStruct structs.now }
+    ensures { IsTrue result → AllByRecursion IsStructForm structs.now }
 {
     for structure in structs {
         if !is_struct(structure) {
@@ -182,7 +182,7 @@ fn are_structs(structs: &[CStruct]) -> bool
 }
 
 pub(crate) fn is_program(program: &CProgram) -> bool
-    ensures { IsTrue result → IsProgram (plain_program program.now) }
+    ensures { IsTrue result → IsProgramForm (plain_program program.now) }
 {
     are_structs(program.structs.as_slice()) && are_funs(program.funs.as_slice())
 }

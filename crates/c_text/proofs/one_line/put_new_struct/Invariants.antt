@@ -1,7 +1,7 @@
 use Rattle.std.proofs.Common.{◌≡◌, ◌++◌, map, drop, flat_map}
 use Rattle.c_syntax.specs.Plain.{plain_init}
 use Rattle.c_syntax.specs.Text.{init_text}
-use Rattle.c_text.proofs.simple.put_new_struct.Given as goal
+use Rattle.c_text.proofs.one_line.put_new_struct.Given as goal
 
 abbrev pub invariant-loop-init : goal.invariant-loop-init
 invariant-loop-init l =
