@@ -1,4 +1,4 @@
-use Rattle.std.proofs.Common.{◌≤◌, drop, max}
+use Rattle.std.proofs.Common.{◌≤◌, drop}
 use Rattle.c_syntax.specs.Forms.{AreStmtForms, stmts_depth}
 use Rattle.c_syntax.specs.Plain.{plain_stmts}
 use Rattle.c_text.proofs.tests.forms.+forms.Given as goal

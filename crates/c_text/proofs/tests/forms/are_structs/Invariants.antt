@@ -1,4 +1,4 @@
-use Rattle.std.proofs.Common.{drop, map}
+use Rattle.std.proofs.Common.{drop}
 use Rattle.std.specs.List.{AllByRecursion}
 use Rattle.c_syntax.specs.Forms.{IsStructForm}
 use Rattle.c_text.proofs.tests.forms.are_structs.Given as goal
