@@ -1,16 +1,17 @@
 //! Expressions, cells and calls.
 
-ghost use Rattle.std.specs.Prelude.{◌≡◌, ◌++◌, ℕ, OnOk, codes, map};
+ghost use Rattle.std.specs.Prelude.{map};
 ghost use Rattle.c_syntax.specs.Plain.{plain_expr, plain_cell};
 ghost use Rattle.c_syntax.specs.Tree as t;
 ghost use Rattle.c_syntax.specs.Text.{constant, literal_text, truth_text, operator, expr_text, cell_text, call_text, commas};
+ghost use Rattle.c_text.specs.Adds.{Adds};
 
 use crate::pieces::{put, put_function_name, put_local, put_member_name, put_number};
 use c_syntax::{CCell, CExpr, COp, Local};
 use pl_base::{Memory, Name};
 
 fn put_constant(out: &mut Vec<u8>, n: u64) -> Result<(), Memory>
-    ensures { OnOk result (out.new.items ≡ out.old.items ++ constant n) }
+    ensures { Adds result out.old out.new (constant n) }
 {
     put(out, b"INT64_C(")?;
     put_number(out, n)?;
@@ -18,7 +19,7 @@ fn put_constant(out: &mut Vec<u8>, n: u64) -> Result<(), Memory>
 }
 
 fn put_literal(out: &mut Vec<u8>, n: i64) -> Result<(), Memory>
-    ensures { OnOk result (out.new.items ≡ out.old.items ++ literal_text n) }
+    ensures { Adds result out.old out.new (literal_text n) }
 {
     if n >= 0 {
         return put_constant(out, n.unsigned_abs());
@@ -35,7 +36,7 @@ fn put_literal(out: &mut Vec<u8>, n: i64) -> Result<(), Memory>
 }
 
 fn put_truth(out: &mut Vec<u8>, b: bool) -> Result<(), Memory>
-    ensures { OnOk result (out.new.items ≡ out.old.items ++ truth_text b) }
+    ensures { Adds result out.old out.new (truth_text b) }
 {
     if b {
         put(out, b"true")
@@ -45,7 +46,7 @@ fn put_truth(out: &mut Vec<u8>, b: bool) -> Result<(), Memory>
 }
 
 fn put_operator(out: &mut Vec<u8>, op: COp) -> Result<(), Memory>
-    ensures { OnOk result (out.new.items ≡ out.old.items ++ operator op) }
+    ensures { Adds result out.old out.new (operator op) }
 {
     let text: &[u8] = match op {
         COp::Add => b" + ",
@@ -66,7 +67,7 @@ fn put_operator(out: &mut Vec<u8>, op: COp) -> Result<(), Memory>
 }
 
 pub(crate) fn put_expr(out: &mut Vec<u8>, e: &CExpr) -> Result<(), Memory>
-    ensures { OnOk result (out.new.items ≡ out.old.items ++ expr_text (plain_expr e.now)) }
+    ensures { Adds result out.old out.new (expr_text (plain_expr e.now)) }
 {
     match e {
         CExpr::Int(n) => put_literal(out, *n),
@@ -94,7 +95,7 @@ pub(crate) fn put_expr(out: &mut Vec<u8>, e: &CExpr) -> Result<(), Memory>
 }
 
 pub(crate) fn put_field(out: &mut Vec<u8>, base: &Local, member: &Name) -> Result<(), Memory>
-    ensures { OnOk result (out.new.items ≡ out.old.items ++ cell_text (t.Field base.now member.now)) }
+    ensures { Adds result out.old out.new (cell_text (t.Field base.now member.now)) }
 {
     put_local(out, base)?;
     put(out, b"->")?;
@@ -102,7 +103,7 @@ pub(crate) fn put_field(out: &mut Vec<u8>, base: &Local, member: &Name) -> Resul
 }
 
 pub(crate) fn put_cell(out: &mut Vec<u8>, cell: &CCell) -> Result<(), Memory>
-    ensures { OnOk result (out.new.items ≡ out.old.items ++ cell_text (plain_cell cell.now)) }
+    ensures { Adds result out.old out.new (cell_text (plain_cell cell.now)) }
 {
     match cell {
         CCell::Whole(base) => {
@@ -120,7 +121,7 @@ pub(crate) fn put_cell(out: &mut Vec<u8>, cell: &CCell) -> Result<(), Memory>
 }
 
 fn put_arguments(out: &mut Vec<u8>, args: &[CExpr]) -> Result<(), Memory>
-    ensures { OnOk result (out.new.items ≡ out.old.items ++ commas (map expr_text (map plain_expr args.now))) }
+    ensures { Adds result out.old out.new (commas (map expr_text (map plain_expr args.now))) }
 {
     let [first, others @ ..] = args else {
         return Ok(());
@@ -134,7 +135,7 @@ fn put_arguments(out: &mut Vec<u8>, args: &[CExpr]) -> Result<(), Memory>
 }
 
 pub(crate) fn put_call(out: &mut Vec<u8>, f: &Name, args: &[CExpr]) -> Result<(), Memory>
-    ensures { OnOk result (out.new.items ≡ out.old.items ++ call_text f.now (map plain_expr args.now)) }
+    ensures { Adds result out.old out.new (call_text f.now (map plain_expr args.now)) }
 {
     put_function_name(out, f)?;
     put(out, b"(")?;

@@ -1,9 +1,10 @@
 //! Lines, which are made of pieces.
 
-ghost use Rattle.std.specs.Prelude.{◌≡◌, ◌++◌, OnOk, map};
+ghost use Rattle.std.specs.Prelude.{map};
 ghost use Rattle.c_syntax.specs.Text.{line, statement, joined, type_text, maker};
 ghost use Rattle.c_syntax.specs.declared.kind.CType.TheVariants as kind;
 ghost use Rattle.c_text.specs.Pieces.{piece_text};
+ghost use Rattle.c_text.specs.Adds.{Adds};
 
 use crate::exprs::{put_call, put_cell, put_expr, put_field};
 use crate::pieces::{
@@ -42,7 +43,7 @@ pub(crate) enum Piece<'a> {
 }
 
 fn put_maker(out: &mut Vec<u8>, kind: &CType) -> Result<(), Memory>
-    ensures { OnOk result (out.new.items ≡ out.old.items ++ maker kind.now) }
+    ensures { Adds result out.old out.new (maker kind.now) }
 {
     match kind {
         CType::PtrBool => put(out, b"p_new_bool("),
@@ -51,14 +52,14 @@ fn put_maker(out: &mut Vec<u8>, kind: &CType) -> Result<(), Memory>
 }
 
 fn put_struct_pointer(out: &mut Vec<u8>, name: &Name) -> Result<(), Memory>
-    ensures { OnOk result (out.new.items ≡ out.old.items ++ type_text (kind.PtrStruct name.now)) }
+    ensures { Adds result out.old out.new (type_text (kind.PtrStruct name.now)) }
 {
     put_struct_name(out, name)?;
     put(out, b" *")
 }
 
 fn put_piece(out: &mut Vec<u8>, piece: &Piece) -> Result<(), Memory>
-    ensures { OnOk result (out.new.items ≡ out.old.items ++ piece_text piece.now) }
+    ensures { Adds result out.old out.new (piece_text piece.now) }
 {
     match *piece {
         Piece::Text(text) => put(out, text.as_bytes()),
@@ -81,7 +82,7 @@ fn put_piece(out: &mut Vec<u8>, piece: &Piece) -> Result<(), Memory>
 
 /// Adds pieces, one behind the other, and then the last one.
 pub(crate) fn put_pieces(out: &mut Vec<u8>, pieces: &[Piece], last: &str) -> Result<(), Memory>
-    ensures { OnOk result (out.new.items ≡ out.old.items ++ joined (map piece_text pieces.now) last.now) }
+    ensures { Adds result out.old out.new (joined (map piece_text pieces.now) last.now) }
 {
     for piece in pieces {
         put_piece(out, piece)?;
@@ -91,7 +92,7 @@ pub(crate) fn put_pieces(out: &mut Vec<u8>, pieces: &[Piece], last: &str) -> Res
 
 /// Adds a line.
 pub(crate) fn put_line(out: &mut Vec<u8>, level: u32, pieces: &[Piece]) -> Result<(), Memory>
-    ensures { OnOk result (out.new.items ≡ out.old.items ++ line level (map piece_text pieces.now)) }
+    ensures { Adds result out.old out.new (line level (map piece_text pieces.now)) }
 {
     put_indent(out, level)?;
     put_pieces(out, pieces, "\n")
@@ -99,7 +100,7 @@ pub(crate) fn put_line(out: &mut Vec<u8>, level: u32, pieces: &[Piece]) -> Resul
 
 /// Adds a line that ends with a semicolon.
 pub(crate) fn put_statement(out: &mut Vec<u8>, level: u32, pieces: &[Piece]) -> Result<(), Memory>
-    ensures { OnOk result (out.new.items ≡ out.old.items ++ statement level (map piece_text pieces.now)) }
+    ensures { Adds result out.old out.new (statement level (map piece_text pieces.now)) }
 {
     put_indent(out, level)?;
     put_pieces(out, pieces, ";\n")

@@ -1,9 +1,10 @@
 //! Statements of one line, and structures that are made.
 
-ghost use Rattle.std.specs.Prelude.{◌≡◌, ◌++◌, [], OnOk, map, flat_map};
+ghost use Rattle.std.specs.Prelude.{[], map};
 ghost use Rattle.c_syntax.specs.Plain.{plain_expr, plain_cell, plain_init};
 ghost use Rattle.c_syntax.specs.Text.{init_text, stmt_text};
 ghost use Rattle.c_syntax.specs.Tree as t;
+ghost use Rattle.c_text.specs.Adds.{Adds};
 
 use crate::lines::{Piece, put_statement};
 use c_syntax::{CCell, CExpr, CInit, CType, Local};
@@ -16,7 +17,7 @@ pub(crate) fn put_let<'a>(
     x: &'a Local,
     e: &'a CExpr,
 ) -> Result<(), Memory>
-    ensures { OnOk result (out.new.items ≡ out.old.items ++ stmt_text level (t.Let kind.now x.now (plain_expr e.now))) }
+    ensures { Adds result out.old out.new (stmt_text level (t.Let kind.now x.now (plain_expr e.now))) }
 {
     let pieces = [
         Piece::Type(kind),
@@ -34,7 +35,7 @@ pub(crate) fn put_load<'a>(
     x: &'a Local,
     cell: &'a CCell,
 ) -> Result<(), Memory>
-    ensures { OnOk result (out.new.items ≡ out.old.items ++ stmt_text level (t.Load kind.now x.now (plain_cell cell.now))) }
+    ensures { Adds result out.old out.new (stmt_text level (t.Load kind.now x.now (plain_cell cell.now))) }
 {
     let pieces = [
         Piece::Type(kind),
@@ -51,7 +52,7 @@ pub(crate) fn put_store<'a>(
     cell: &'a CCell,
     e: &'a CExpr,
 ) -> Result<(), Memory>
-    ensures { OnOk result (out.new.items ≡ out.old.items ++ stmt_text level (t.Store (plain_cell cell.now) (plain_expr e.now))) }
+    ensures { Adds result out.old out.new (stmt_text level (t.Store (plain_cell cell.now) (plain_expr e.now))) }
 {
     let pieces = [Piece::Cell(cell), Piece::Text(" = "), Piece::Expr(e)];
     put_statement(out, level, &pieces)
@@ -64,7 +65,7 @@ pub(crate) fn put_new<'a>(
     x: &'a Local,
     e: &'a CExpr,
 ) -> Result<(), Memory>
-    ensures { OnOk result (out.new.items ≡ out.old.items ++ stmt_text level (t.New kind.now x.now (plain_expr e.now))) }
+    ensures { Adds result out.old out.new (stmt_text level (t.New kind.now x.now (plain_expr e.now))) }
 {
     let pieces = [
         Piece::Type(kind),
@@ -85,7 +86,7 @@ pub(crate) fn put_new_array<'a>(
     e: &'a CExpr,
     count: &'a CExpr,
 ) -> Result<(), Memory>
-    ensures { OnOk result (out.new.items ≡ out.old.items ++ stmt_text level (t.NewArray kind.now x.now (plain_expr e.now) (plain_expr count.now))) }
+    ensures { Adds result out.old out.new (stmt_text level (t.NewArray kind.now x.now (plain_expr e.now) (plain_expr count.now))) }
 {
     let pieces = [
         Piece::Type(kind),
@@ -105,7 +106,7 @@ pub(crate) fn put_new_atomic<'a>(
     x: &'a Local,
     e: &'a CExpr,
 ) -> Result<(), Memory>
-    ensures { OnOk result (out.new.items ≡ out.old.items ++ stmt_text level (t.NewAtomic x.now (plain_expr e.now))) }
+    ensures { Adds result out.old out.new (stmt_text level (t.NewAtomic x.now (plain_expr e.now))) }
 {
     let pieces = [
         Piece::Text("p_atomic *"),
@@ -118,7 +119,7 @@ pub(crate) fn put_new_atomic<'a>(
 }
 
 pub(crate) fn put_free(out: &mut Vec<u8>, level: u32, base: &Local) -> Result<(), Memory>
-    ensures { OnOk result (out.new.items ≡ out.old.items ++ stmt_text level (t.Free base.now)) }
+    ensures { Adds result out.old out.new (stmt_text level (t.Free base.now)) }
 {
     let pieces = [Piece::Text("free("), Piece::Local(base), Piece::Text(")")];
     put_statement(out, level, &pieces)
@@ -130,7 +131,7 @@ pub(crate) fn put_atomic_load<'a>(
     x: &'a Local,
     base: &'a Local,
 ) -> Result<(), Memory>
-    ensures { OnOk result (out.new.items ≡ out.old.items ++ stmt_text level (t.AtomicLoad x.now base.now)) }
+    ensures { Adds result out.old out.new (stmt_text level (t.AtomicLoad x.now base.now)) }
 {
     let pieces = [
         Piece::Text("int64_t "),
@@ -148,7 +149,7 @@ pub(crate) fn put_atomic_store<'a>(
     base: &'a Local,
     e: &'a CExpr,
 ) -> Result<(), Memory>
-    ensures { OnOk result (out.new.items ≡ out.old.items ++ stmt_text level (t.AtomicStore base.now (plain_expr e.now))) }
+    ensures { Adds result out.old out.new (stmt_text level (t.AtomicStore base.now (plain_expr e.now))) }
 {
     let pieces = [
         Piece::Text("atomic_store("),
@@ -168,7 +169,7 @@ pub(crate) fn put_cas<'a>(
     old: &'a CExpr,
     new: &'a CExpr,
 ) -> Result<(), Memory>
-    ensures { OnOk result (out.new.items ≡ out.old.items ++ stmt_text level (t.Cas x.now base.now (plain_expr old.now) (plain_expr new.now))) }
+    ensures { Adds result out.old out.new (stmt_text level (t.Cas x.now base.now (plain_expr old.now) (plain_expr new.now))) }
 {
     let pieces = [
         Piece::Text("bool "),
@@ -185,7 +186,7 @@ pub(crate) fn put_cas<'a>(
 }
 
 pub(crate) fn put_new_lock(out: &mut Vec<u8>, level: u32, x: &Local) -> Result<(), Memory>
-    ensures { OnOk result (out.new.items ≡ out.old.items ++ stmt_text level (t.NewLock x.now)) }
+    ensures { Adds result out.old out.new (stmt_text level (t.NewLock x.now)) }
 {
     let pieces = [
         Piece::Text("struct p_lock *"),
@@ -196,7 +197,7 @@ pub(crate) fn put_new_lock(out: &mut Vec<u8>, level: u32, x: &Local) -> Result<(
 }
 
 pub(crate) fn put_acquire(out: &mut Vec<u8>, level: u32, lock: &Local) -> Result<(), Memory>
-    ensures { OnOk result (out.new.items ≡ out.old.items ++ stmt_text level (t.Acquire lock.now)) }
+    ensures { Adds result out.old out.new (stmt_text level (t.Acquire lock.now)) }
 {
     let pieces = [
         Piece::Text("p_acquire("),
@@ -207,7 +208,7 @@ pub(crate) fn put_acquire(out: &mut Vec<u8>, level: u32, lock: &Local) -> Result
 }
 
 pub(crate) fn put_release(out: &mut Vec<u8>, level: u32, lock: &Local) -> Result<(), Memory>
-    ensures { OnOk result (out.new.items ≡ out.old.items ++ stmt_text level (t.Release lock.now)) }
+    ensures { Adds result out.old out.new (stmt_text level (t.Release lock.now)) }
 {
     let pieces = [
         Piece::Text("p_release("),
@@ -218,7 +219,7 @@ pub(crate) fn put_release(out: &mut Vec<u8>, level: u32, lock: &Local) -> Result
 }
 
 pub(crate) fn put_read(out: &mut Vec<u8>, level: u32, x: &Local) -> Result<(), Memory>
-    ensures { OnOk result (out.new.items ≡ out.old.items ++ stmt_text level (t.Read x.now)) }
+    ensures { Adds result out.old out.new (stmt_text level (t.Read x.now)) }
 {
     let pieces = [
         Piece::Text("int64_t "),
@@ -229,7 +230,7 @@ pub(crate) fn put_read(out: &mut Vec<u8>, level: u32, x: &Local) -> Result<(), M
 }
 
 pub(crate) fn put_print(out: &mut Vec<u8>, level: u32, e: &CExpr) -> Result<(), Memory>
-    ensures { OnOk result (out.new.items ≡ out.old.items ++ stmt_text level (t.Print (plain_expr e.now))) }
+    ensures { Adds result out.old out.new (stmt_text level (t.Print (plain_expr e.now))) }
 {
     let pieces = [Piece::Text("p_print("), Piece::Expr(e), Piece::Text(")")];
     put_statement(out, level, &pieces)
@@ -241,7 +242,7 @@ pub(crate) fn put_call<'a>(
     f: &'a Name,
     args: &'a [CExpr],
 ) -> Result<(), Memory>
-    ensures { OnOk result (out.new.items ≡ out.old.items ++ stmt_text level (t.Call f.now (map plain_expr args.now))) }
+    ensures { Adds result out.old out.new (stmt_text level (t.Call f.now (map plain_expr args.now))) }
 {
     let pieces = [Piece::Call(f, args)];
     put_statement(out, level, &pieces)
@@ -255,7 +256,7 @@ pub(crate) fn put_call_let<'a>(
     f: &'a Name,
     args: &'a [CExpr],
 ) -> Result<(), Memory>
-    ensures { OnOk result (out.new.items ≡ out.old.items ++ stmt_text level (t.CallLet kind.now x.now f.now (map plain_expr args.now))) }
+    ensures { Adds result out.old out.new (stmt_text level (t.CallLet kind.now x.now f.now (map plain_expr args.now))) }
 {
     let pieces = [
         Piece::Type(kind),
@@ -267,7 +268,7 @@ pub(crate) fn put_call_let<'a>(
 }
 
 pub(crate) fn put_return(out: &mut Vec<u8>, level: u32, e: &CExpr) -> Result<(), Memory>
-    ensures { OnOk result (out.new.items ≡ out.old.items ++ stmt_text level (t.Return (plain_expr e.now))) }
+    ensures { Adds result out.old out.new (stmt_text level (t.Return (plain_expr e.now))) }
 {
     let pieces = [Piece::Text("return "), Piece::Expr(e)];
     put_statement(out, level, &pieces)
@@ -275,7 +276,7 @@ pub(crate) fn put_return(out: &mut Vec<u8>, level: u32, e: &CExpr) -> Result<(),
 
 /// The first value of one member.
 fn put_init<'a>(out: &mut Vec<u8>, level: u32, x: &'a Local, init: &'a CInit) -> Result<(), Memory>
-    ensures { OnOk result (out.new.items ≡ out.old.items ++ init_text level x.now (plain_init init.now)) }
+    ensures { Adds result out.old out.new (init_text level x.now (plain_init init.now)) }
 {
     let pieces = [
         Piece::Field(x, &init.name),
@@ -287,7 +288,7 @@ fn put_init<'a>(out: &mut Vec<u8>, level: u32, x: &'a Local, init: &'a CInit) ->
 
 /// The line that makes a structure, before its first values.
 fn put_made<'a>(out: &mut Vec<u8>, level: u32, x: &'a Local, name: &'a Name) -> Result<(), Memory>
-    ensures { OnOk result (out.new.items ≡ out.old.items ++ stmt_text level (t.NewStruct x.now name.now [])) }
+    ensures { Adds result out.old out.new (stmt_text level (t.NewStruct x.now name.now [])) }
 {
     let pieces = [
         Piece::StructPointer(name),
@@ -306,7 +307,7 @@ pub(crate) fn put_new_struct<'a>(
     name: &'a Name,
     inits: &'a [CInit],
 ) -> Result<(), Memory>
-    ensures { OnOk result (out.new.items ≡ out.old.items ++ stmt_text level (t.NewStruct x.now name.now (map plain_init inits.now))) }
+    ensures { Adds result out.old out.new (stmt_text level (t.NewStruct x.now name.now (map plain_init inits.now))) }
 {
     put_made(out, level, x, name)?;
     for init in inits {

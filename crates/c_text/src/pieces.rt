@@ -1,7 +1,8 @@
 //! The smallest pieces of a text: names, types, numbers and the beginnings of lines.
 
-ghost use Rattle.std.specs.Prelude.{◌≡◌, ◌++◌, ℕ, OnOk, codes, decimal};
+ghost use Rattle.std.specs.Prelude.{◌++◌, decimal};
 ghost use Rattle.c_syntax.specs.Text.{mangled_name, local_text, function_name, struct_name, member_name, arguments_name, argument_name, starter_name, type_text, indent};
+ghost use Rattle.c_text.specs.Adds.{Adds};
 
 use c_syntax::{CType, Local};
 use itoa::Buffer;
@@ -9,7 +10,7 @@ use pl_base::{Memory, Name};
 
 /// Adds a text.
 pub(crate) fn put(out: &mut Vec<u8>, text: &[u8]) -> Result<(), Memory>
-    ensures { OnOk result (out.new.items ≡ out.old.items ++ text.now) }
+    ensures { Adds result out.old out.new text.now }
 {
     out.extend_from_slice(text)?;
     Ok(())
@@ -17,7 +18,7 @@ pub(crate) fn put(out: &mut Vec<u8>, text: &[u8]) -> Result<(), Memory>
 
 /// Adds a number in decimal.
 pub(crate) fn put_number(out: &mut Vec<u8>, n: u64) -> Result<(), Memory>
-    ensures { OnOk result (out.new.items ≡ out.old.items ++ decimal n) }
+    ensures { Adds result out.old out.new (decimal n) }
 {
     let mut buffer = Buffer::new();
     put(out, buffer.format(n).as_bytes())
@@ -25,7 +26,7 @@ pub(crate) fn put_number(out: &mut Vec<u8>, n: u64) -> Result<(), Memory>
 
 /// Adds a name with its prefix.
 pub(crate) fn put_name(out: &mut Vec<u8>, prefix: &[u8], name: &Name) -> Result<(), Memory>
-    ensures { OnOk result (out.new.items ≡ out.old.items ++ (prefix.now ++ mangled_name name.now)) }
+    ensures { Adds result out.old out.new (prefix.now ++ mangled_name name.now) }
 {
     let mangled = name.mangled(*out.allocator())?;
     put(out, prefix)?;
@@ -33,7 +34,7 @@ pub(crate) fn put_name(out: &mut Vec<u8>, prefix: &[u8], name: &Name) -> Result<
 }
 
 pub(crate) fn put_local(out: &mut Vec<u8>, x: &Local) -> Result<(), Memory>
-    ensures { OnOk result (out.new.items ≡ out.old.items ++ local_text x.now) }
+    ensures { Adds result out.old out.new (local_text x.now) }
 {
     put_name(out, b"v_", &x.name)?;
     put(out, b"_")?;
@@ -41,37 +42,37 @@ pub(crate) fn put_local(out: &mut Vec<u8>, x: &Local) -> Result<(), Memory>
 }
 
 pub(crate) fn put_function_name(out: &mut Vec<u8>, name: &Name) -> Result<(), Memory>
-    ensures { OnOk result (out.new.items ≡ out.old.items ++ function_name name.now) }
+    ensures { Adds result out.old out.new (function_name name.now) }
 {
     put_name(out, b"f_", name)
 }
 
 pub(crate) fn put_struct_name(out: &mut Vec<u8>, name: &Name) -> Result<(), Memory>
-    ensures { OnOk result (out.new.items ≡ out.old.items ++ struct_name name.now) }
+    ensures { Adds result out.old out.new (struct_name name.now) }
 {
     put_name(out, b"struct s_", name)
 }
 
 pub(crate) fn put_member_name(out: &mut Vec<u8>, name: &Name) -> Result<(), Memory>
-    ensures { OnOk result (out.new.items ≡ out.old.items ++ member_name name.now) }
+    ensures { Adds result out.old out.new (member_name name.now) }
 {
     put_name(out, b"m_", name)
 }
 
 pub(crate) fn put_arguments_name(out: &mut Vec<u8>, name: &Name) -> Result<(), Memory>
-    ensures { OnOk result (out.new.items ≡ out.old.items ++ arguments_name name.now) }
+    ensures { Adds result out.old out.new (arguments_name name.now) }
 {
     put_name(out, b"struct a_", name)
 }
 
 pub(crate) fn put_starter_name(out: &mut Vec<u8>, name: &Name) -> Result<(), Memory>
-    ensures { OnOk result (out.new.items ≡ out.old.items ++ starter_name name.now) }
+    ensures { Adds result out.old out.new (starter_name name.now) }
 {
     put_name(out, b"t_", name)
 }
 
 pub(crate) fn put_argument_name(out: &mut Vec<u8>, k: u64) -> Result<(), Memory>
-    ensures { OnOk result (out.new.items ≡ out.old.items ++ argument_name k) }
+    ensures { Adds result out.old out.new (argument_name k) }
 {
     put(out, b"a_")?;
     put_number(out, k)
@@ -79,7 +80,7 @@ pub(crate) fn put_argument_name(out: &mut Vec<u8>, k: u64) -> Result<(), Memory>
 
 /// Adds a type in front of a name.
 pub(crate) fn put_type(out: &mut Vec<u8>, kind: &CType) -> Result<(), Memory>
-    ensures { OnOk result (out.new.items ≡ out.old.items ++ type_text kind.now) }
+    ensures { Adds result out.old out.new (type_text kind.now) }
 {
     match kind {
         CType::Void => put(out, b"void "),
@@ -98,7 +99,7 @@ pub(crate) fn put_type(out: &mut Vec<u8>, kind: &CType) -> Result<(), Memory>
 
 /// Adds two blanks a level.
 pub(crate) fn put_indent(out: &mut Vec<u8>, level: u32) -> Result<(), Memory>
-    ensures { OnOk result (out.new.items ≡ out.old.items ++ indent level) }
+    ensures { Adds result out.old out.new (indent level) }
 {
     for _ in 0..level {
         put(out, b"  ")?;

@@ -1,7 +1,7 @@
 //! The prelude of each C text.
 
-ghost use Rattle.std.specs.Prelude.{◌≡◌, ◌++◌, OnOk};
 ghost use Rattle.c_syntax.specs.PreludeText.{prelude};
+ghost use Rattle.c_text.specs.Adds.{Adds};
 
 use crate::pieces::put;
 use pl_base::Memory;
@@ -90,7 +90,7 @@ static int64_t p_read(void) {
 
 #[tactic(auto, unfolding(c_syntax::specs::PreludeText::prelude))]
 pub(crate) fn put_prelude(out: &mut Vec<u8>) -> Result<(), Memory>
-    ensures { OnOk result (out.new.items ≡ out.old.items ++ prelude) }
+    ensures { Adds result out.old out.new prelude }
 {
     put(out, PRELUDE.as_bytes())
 }

@@ -1,9 +1,10 @@
 //! Structures, functions and whole programs.
 
-ghost use Rattle.std.specs.Prelude.{◌≡◌, ◌++◌, [], ◌∷◌, OnOk, codes, flat_map};
+ghost use Rattle.std.specs.Prelude.{◌++◌, [], ◌∷◌, codes, flat_map};
 ghost use Rattle.c_syntax.specs.Forms.{IsFunForm};
 ghost use Rattle.c_syntax.specs.Plain.{plain_fun};
 ghost use Rattle.c_syntax.specs.Text as text;
+ghost use Rattle.c_text.specs.Adds.{Adds};
 
 use crate::lines::{Piece, put_line, put_pieces, put_statement};
 use crate::pieces::{put, put_argument_name, put_local, put_type};
@@ -12,7 +13,8 @@ use c_syntax::{CFun, CMember, CParam, CStruct};
 use pl_base::{Memory, Name};
 
 fn put_members(out: &mut Vec<u8>, members: &[CMember]) -> Result<(), Memory>
-    ensures { OnOk result (out.new.items ≡ out.old.items ++ flat_map (λ m. text.statement 1 (text.type_text m.kind ∷ text.member_name m.name ∷ [])) members.now) }
+    ensures { Adds result out.old out.new (
+        flat_map (λ m. text.statement 1 (text.type_text m.kind ∷ text.member_name m.name ∷ [])) members.now) }
 {
     for member in members {
         let pieces = [Piece::Type(&member.kind), Piece::Member(&member.name)];
@@ -22,7 +24,7 @@ fn put_members(out: &mut Vec<u8>, members: &[CMember]) -> Result<(), Memory>
 }
 
 pub(crate) fn put_struct(out: &mut Vec<u8>, structure: &CStruct) -> Result<(), Memory>
-    ensures { OnOk result (out.new.items ≡ out.old.items ++ text.struct_text structure.now) }
+    ensures { Adds result out.old out.new (text.struct_text structure.now) }
 {
     let head = [Piece::Struct(&structure.name), Piece::Text(" {")];
     put_line(out, 0, &head)?;
@@ -31,14 +33,14 @@ pub(crate) fn put_struct(out: &mut Vec<u8>, structure: &CStruct) -> Result<(), M
 }
 
 fn put_param(out: &mut Vec<u8>, param: &CParam) -> Result<(), Memory>
-    ensures { OnOk result (out.new.items ≡ out.old.items ++ (text.type_text param.now.kind ++ text.local_text param.now.local)) }
+    ensures { Adds result out.old out.new (text.type_text param.now.kind ++ text.local_text param.now.local) }
 {
     put_type(out, &param.kind)?;
     put_local(out, &param.local)
 }
 
 fn put_params(out: &mut Vec<u8>, params: &[CParam]) -> Result<(), Memory>
-    ensures { OnOk result (out.new.items ≡ out.old.items ++ text.params_text params.now) }
+    ensures { Adds result out.old out.new (text.params_text params.now) }
 {
     let [first, others @ ..] = params else {
         return put(out, b"void");
@@ -53,7 +55,7 @@ fn put_params(out: &mut Vec<u8>, params: &[CParam]) -> Result<(), Memory>
 
 /// The result, the name and the parameters of a function.
 fn put_head(out: &mut Vec<u8>, function: &CFun) -> Result<(), Memory>
-    ensures { OnOk result (out.new.items ≡ out.old.items ++ text.head_text (plain_fun function.now)) }
+    ensures { Adds result out.old out.new (text.head_text (plain_fun function.now)) }
 {
     put(out, b"static ")?;
     let start = [
@@ -66,7 +68,7 @@ fn put_head(out: &mut Vec<u8>, function: &CFun) -> Result<(), Memory>
 }
 
 pub(crate) fn put_prototype(out: &mut Vec<u8>, function: &CFun) -> Result<(), Memory>
-    ensures { OnOk result (out.new.items ≡ out.old.items ++ text.prototype_text (plain_fun function.now)) }
+    ensures { Adds result out.old out.new (text.prototype_text (plain_fun function.now)) }
 {
     put_head(out, function)?;
     put(out, b";\n")
@@ -74,7 +76,7 @@ pub(crate) fn put_prototype(out: &mut Vec<u8>, function: &CFun) -> Result<(), Me
 
 pub(crate) fn put_fun(out: &mut Vec<u8>, function: &CFun) -> Result<(), Memory>
     requires { IsFunForm (plain_fun function.now) }
-    ensures { OnOk result (out.new.items ≡ out.old.items ++ text.fun_text (plain_fun function.now)) }
+    ensures { Adds result out.old out.new (text.fun_text (plain_fun function.now)) }
 {
     put_head(out, function)?;
     put(out, b" {\n")?;
@@ -84,7 +86,7 @@ pub(crate) fn put_fun(out: &mut Vec<u8>, function: &CFun) -> Result<(), Memory>
 
 /// A member for each argument of a thread's first call.
 fn put_argument_members(out: &mut Vec<u8>, params: &[CParam]) -> Result<(), Memory>
-    ensures { OnOk result (out.new.items ≡ out.old.items ++ text.argument_members 1 params.now) }
+    ensures { Adds result out.old out.new (text.argument_members 1 params.now) }
 {
     for (i, param) in params.iter().enumerate() {
         let pieces = [Piece::Type(&param.kind), Piece::Argument(i as u64 + 1)];
@@ -94,7 +96,7 @@ fn put_argument_members(out: &mut Vec<u8>, params: &[CParam]) -> Result<(), Memo
 }
 
 fn put_arguments_struct(out: &mut Vec<u8>, function: &CFun) -> Result<(), Memory>
-    ensures { OnOk result (out.new.items ≡ out.old.items ++ text.arguments_struct (plain_fun function.now)) }
+    ensures { Adds result out.old out.new (text.arguments_struct (plain_fun function.now)) }
 {
     let head = [Piece::Arguments(&function.name), Piece::Text(" {")];
     put_line(out, 0, &head)?;
@@ -105,7 +107,7 @@ fn put_arguments_struct(out: &mut Vec<u8>, function: &CFun) -> Result<(), Memory
 
 /// The arguments that were handed over, with commas between them.
 fn put_handed_arguments(out: &mut Vec<u8>, params: &[CParam]) -> Result<(), Memory>
-    ensures { OnOk result (out.new.items ≡ out.old.items ++ text.commas (text.handed_arguments 1 params.now)) }
+    ensures { Adds result out.old out.new (text.commas (text.handed_arguments 1 params.now)) }
 {
     let [_, others @ ..] = params else {
         return Ok(());
@@ -121,7 +123,7 @@ fn put_handed_arguments(out: &mut Vec<u8>, params: &[CParam]) -> Result<(), Memo
 
 /// The lines of a starter up to its call.
 fn put_arguments_taken(out: &mut Vec<u8>, name: &Name) -> Result<(), Memory>
-    ensures { OnOk result (out.new.items ≡ out.old.items ++ text.joined (
+    ensures { Adds result out.old out.new (text.joined (
         text.line 0 (codes "static int " ∷ text.starter_name name.now ∷ codes "(void *p) {" ∷ []) ∷
         text.statement 1 (text.arguments_name name.now ∷ codes " *q = p" ∷ []) ∷
         text.statement 1 (text.arguments_name name.now ∷ codes " c = *q" ∷ []) ∷ [])
@@ -140,7 +142,9 @@ fn put_arguments_taken(out: &mut Vec<u8>, name: &Name) -> Result<(), Memory>
 
 /// A starter's call.
 fn put_first_call(out: &mut Vec<u8>, function: &CFun) -> Result<(), Memory>
-    ensures { OnOk result (out.new.items ≡ out.old.items ++ text.statement 1 (text.function_name function.now.name ∷ codes "(" ∷ text.commas (text.handed_arguments 1 function.now.params) ∷ codes ")" ∷ [])) }
+    ensures { Adds result out.old out.new (text.statement 1 (
+        text.function_name function.now.name ∷ codes "(" ∷
+        text.commas (text.handed_arguments 1 function.now.params) ∷ codes ")" ∷ [])) }
 {
     put(out, b"  ")?;
     put_pieces(out, &[Piece::Function(&function.name)], "(")?;
@@ -149,7 +153,7 @@ fn put_first_call(out: &mut Vec<u8>, function: &CFun) -> Result<(), Memory>
 }
 
 fn put_starter(out: &mut Vec<u8>, function: &CFun) -> Result<(), Memory>
-    ensures { OnOk result (out.new.items ≡ out.old.items ++ text.starter (plain_fun function.now)) }
+    ensures { Adds result out.old out.new (text.starter (plain_fun function.now)) }
 {
     put_arguments_taken(out, &function.name)?;
     put_first_call(out, function)?;
@@ -158,7 +162,7 @@ fn put_starter(out: &mut Vec<u8>, function: &CFun) -> Result<(), Memory>
 
 /// The structure and the starter of threads whose first call is of that function.
 pub(crate) fn put_thread(out: &mut Vec<u8>, function: &CFun) -> Result<(), Memory>
-    ensures { OnOk result (out.new.items ≡ out.old.items ++ text.starter_text (plain_fun function.now)) }
+    ensures { Adds result out.old out.new (text.starter_text (plain_fun function.now)) }
 {
     put_arguments_struct(out, function)?;
     put_starter(out, function)

@@ -1,6 +1,6 @@
 //! The functions with which threads begin.
 
-ghost use Rattle.std.specs.Prelude.{◌≡◌, [], ◌∷◌, IfOk, OnOk, map};
+ghost use Rattle.std.specs.Prelude.{[], ◌∷◌, IfOk, OnOk, map};
 ghost use Rattle.c_syntax.specs.Plain.{plain_fun, plain_stmt, plain_stmts};
 ghost use Rattle.c_syntax.specs.Text.{funs_starts, stmt_starts, stmts_starts};
 ghost use Rattle.c_text.specs.Names.{AddsNames, HasNames};

@@ -1,10 +1,11 @@
 //! Statements.
 
-ghost use Rattle.std.specs.Prelude.{◌≡◌, ◌++◌, [], ◌∷◌, ◌+◌, ◌≤◌, OnOk, map, codes};
+ghost use Rattle.std.specs.Prelude.{◌++◌, [], ◌∷◌, ◌+◌, ◌≤◌, map, codes};
 ghost use Rattle.c_syntax.specs.Forms.{deepest, stmt_depth, stmts_depth};
 ghost use Rattle.c_syntax.specs.Plain.{plain_expr, plain_stmt, plain_stmts};
 ghost use Rattle.c_syntax.specs.Text.{arguments_name, expr_text, argument_lines, joined, line, starter_name, statement, stmt_text, stmts_text};
 ghost use Rattle.c_syntax.specs.Tree as t;
+ghost use Rattle.c_text.specs.Adds.{Adds};
 
 use crate::lines::{Piece, put_line, put_statement};
 use crate::one_line::{
@@ -17,7 +18,7 @@ use pl_base::{Memory, Name};
 
 /// A line for each argument of a thread's first call.
 fn put_argument_lines(out: &mut Vec<u8>, level: u32, args: &[CExpr]) -> Result<(), Memory>
-    ensures { OnOk result (out.new.items ≡ out.old.items ++ argument_lines level 1 (map plain_expr args.now)) }
+    ensures { Adds result out.old out.new (argument_lines level 1 (map plain_expr args.now)) }
 {
     for (i, e) in args.iter().enumerate() {
         let pieces = [
@@ -34,8 +35,9 @@ fn put_argument_lines(out: &mut Vec<u8>, level: u32, args: &[CExpr]) -> Result<(
 /// The lines that start a thread, before its arguments are handed over.
 fn put_thread_opened(out: &mut Vec<u8>, level: u32, f: &Name) -> Result<(), Memory>
     requires { level + 1 ≤ deepest }
-    ensures { OnOk result (out.new.items ≡ out.old.items ++
-        (line level (codes "{" ∷ []) ++ statement (level + 1) (arguments_name f.now ∷ codes " *q = p_get(sizeof(" ∷ arguments_name f.now ∷ codes "))" ∷ []))) }
+    ensures { Adds result out.old out.new (
+        line level (codes "{" ∷ []) ++
+        statement (level + 1) (arguments_name f.now ∷ codes " *q = p_get(sizeof(" ∷ arguments_name f.now ∷ codes "))" ∷ [])) }
 {
     put_line(out, level, &[Piece::Text("{")])?;
     let pieces = [
@@ -48,7 +50,8 @@ fn put_thread_opened(out: &mut Vec<u8>, level: u32, f: &Name) -> Result<(), Memo
 }
 
 fn put_forked(out: &mut Vec<u8>, level: u32, f: &Name) -> Result<(), Memory>
-    ensures { OnOk result (out.new.items ≡ out.old.items ++ statement level (codes "thrd_t t = p_fork(" ∷ starter_name f.now ∷ codes ", q)" ∷ [])) }
+    ensures { Adds result out.old out.new (
+        statement level (codes "thrd_t t = p_fork(" ∷ starter_name f.now ∷ codes ", q)" ∷ [])) }
 {
     let pieces = [
         Piece::Text("thrd_t t = p_fork("),
@@ -67,7 +70,8 @@ fn put_par<'a>(
     others: &'a [CExpr],
 ) -> Result<(), Memory>
     requires { level + 1 ≤ deepest }
-    ensures { OnOk result (out.new.items ≡ out.old.items ++ stmt_text level (t.Par f.now (map plain_expr args.now) g.now (map plain_expr others.now))) }
+    ensures { Adds result out.old out.new (
+        stmt_text level (t.Par f.now (map plain_expr args.now) g.now (map plain_expr others.now))) }
 {
     put_thread_opened(out, level, f)?;
     put_argument_lines(out, level + 1, args)?;
@@ -78,7 +82,8 @@ fn put_par<'a>(
 }
 
 fn put_condition(out: &mut Vec<u8>, level: u32, e: &CExpr) -> Result<(), Memory>
-    ensures { OnOk result (out.new.items ≡ out.old.items ++ line level (codes "if (" ∷ expr_text (plain_expr e.now) ∷ codes ") {" ∷ [])) }
+    ensures { Adds result out.old out.new (
+        line level (codes "if (" ∷ expr_text (plain_expr e.now) ∷ codes ") {" ∷ [])) }
 {
     let pieces = [Piece::Text("if ("), Piece::Expr(e), Piece::Text(") {")];
     put_line(out, level, &pieces)
@@ -87,8 +92,10 @@ fn put_condition(out: &mut Vec<u8>, level: u32, e: &CExpr) -> Result<(), Memory>
 /// The lines that end a loop where its test fails.
 fn put_test(out: &mut Vec<u8>, level: u32, e: &CExpr) -> Result<(), Memory>
     requires { level ≤ deepest }
-    ensures { OnOk result (out.new.items ≡ out.old.items ++
-        joined (line level (codes "if (!" ∷ expr_text (plain_expr e.now) ∷ codes ") {" ∷ []) ∷ statement (level + 1) (codes "break" ∷ []) ∷ []) (line level (codes "}" ∷ []))) }
+    ensures { Adds result out.old out.new (joined (
+        line level (codes "if (!" ∷ expr_text (plain_expr e.now) ∷ codes ") {" ∷ []) ∷
+        statement (level + 1) (codes "break" ∷ []) ∷ [])
+        (line level (codes "}" ∷ []))) }
 {
     let pieces = [Piece::Text("if (!"), Piece::Expr(e), Piece::Text(") {")];
     put_line(out, level, &pieces)?;
@@ -99,7 +106,7 @@ fn put_test(out: &mut Vec<u8>, level: u32, e: &CExpr) -> Result<(), Memory>
 #[cycle(stmt)]
 fn put_stmt(out: &mut Vec<u8>, level: u32, s: &CStmt) -> Result<(), Memory>
     requires { level + stmt_depth (plain_stmt s.now) ≤ deepest }
-    ensures { OnOk result (out.new.items ≡ out.old.items ++ stmt_text level (plain_stmt s.now)) }
+    ensures { Adds result out.old out.new (stmt_text level (plain_stmt s.now)) }
 {
     match s {
         CStmt::Let(kind, x, e) => put_let(out, level, kind, x, e),
@@ -144,7 +151,7 @@ fn put_stmt(out: &mut Vec<u8>, level: u32, s: &CStmt) -> Result<(), Memory>
 #[cycle(stmt)]
 pub(crate) fn put_stmts(out: &mut Vec<u8>, level: u32, list: &[CStmt]) -> Result<(), Memory>
     requires { level + stmts_depth (plain_stmts list.now) ≤ deepest }
-    ensures { OnOk result (out.new.items ≡ out.old.items ++ stmts_text level (plain_stmts list.now)) }
+    ensures { Adds result out.old out.new (stmts_text level (plain_stmts list.now)) }
 {
     for s in list {
         put_stmt(out, level, s)?;

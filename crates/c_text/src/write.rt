@@ -1,12 +1,13 @@
 //! Whole programs.
 
-ghost use Rattle.std.specs.Prelude.{◌≡◌, ◌++◌, [], ◌∷◌, List, IfOk, OnOk, filter, flat_map, map};
+ghost use Rattle.std.specs.Prelude.{◌≡◌, [], ◌∷◌, List, IfOk, filter, flat_map, map};
 ghost use Rattle.std.specs.List.{AllByRecursion};
 ghost use Rattle.c_syntax.specs.Forms.{IsFunForm, IsProgramForm};
 ghost use Rattle.c_syntax.specs.Plain.{plain_fun, plain_program};
 ghost use Rattle.c_syntax.specs.Tree.{Fun};
 ghost use Rattle.c_text.specs.Names.{HasNames};
 ghost use Rattle.c_syntax.specs.Text.{fun_text, funs_starts, is_started, program_text, prototype_text, starter_text, struct_text};
+ghost use Rattle.c_text.specs.Adds.{Adds};
 
 use crate::pieces::put;
 use crate::prelude_text::put_prelude;
@@ -18,7 +19,7 @@ use std::alloc::Global;
 use std::collections::HashSet;
 
 fn put_structs(out: &mut Vec<u8>, structs: &[CStruct]) -> Result<(), Memory>
-    ensures { OnOk result (out.new.items ≡ out.old.items ++ flat_map struct_text structs.now) }
+    ensures { Adds result out.old out.new (flat_map struct_text structs.now) }
 {
     for structure in structs {
         put_struct(out, structure)?;
@@ -27,7 +28,7 @@ fn put_structs(out: &mut Vec<u8>, structs: &[CStruct]) -> Result<(), Memory>
 }
 
 fn put_prototypes(out: &mut Vec<u8>, funs: &[CFun]) -> Result<(), Memory>
-    ensures { OnOk result (out.new.items ≡ out.old.items ++ flat_map prototype_text (map plain_fun funs.now)) }
+    ensures { Adds result out.old out.new (flat_map prototype_text (map plain_fun funs.now)) }
 {
     for function in funs {
         put_prototype(out, function)?;
@@ -38,7 +39,7 @@ fn put_prototypes(out: &mut Vec<u8>, funs: &[CFun]) -> Result<(), Memory>
 /// The structure and the starter of a function with which threads begin, and nothing for another one.
 fn put_if_started(out: &mut Vec<u8>, names: &HashSet<&str>, function: &CFun) -> Result<(), Memory>
     ensures { (all : List Fun) → HasNames (λ k. k.now) names.now (funs_starts all) →
-        OnOk result (out.new.items ≡ out.old.items ++ flat_map starter_text (filter (is_started all) (plain_fun function.now ∷ []))) }
+        Adds result out.old out.new (flat_map starter_text (filter (is_started all) (plain_fun function.now ∷ []))) }
 {
     if !names.contains(function.name.text()) {
         return Ok(());
@@ -48,7 +49,7 @@ fn put_if_started(out: &mut Vec<u8>, names: &HashSet<&str>, function: &CFun) -> 
 
 /// The structures and starters of the functions with which threads begin.
 fn put_threads(out: &mut Vec<u8>, funs: &[CFun]) -> Result<(), Memory>
-    ensures { OnOk result (out.new.items ≡ out.old.items ++ flat_map starter_text (filter (is_started (map plain_fun funs.now)) (map plain_fun funs.now))) }
+    ensures { Adds result out.old out.new (flat_map starter_text (filter (is_started (map plain_fun funs.now)) (map plain_fun funs.now))) }
 {
     let names = started(*out.allocator(), funs)?;
     for function in funs {
@@ -59,7 +60,7 @@ fn put_threads(out: &mut Vec<u8>, funs: &[CFun]) -> Result<(), Memory>
 
 fn put_funs(out: &mut Vec<u8>, funs: &[CFun]) -> Result<(), Memory>
     requires { AllByRecursion IsFunForm (map plain_fun funs.now) }
-    ensures { OnOk result (out.new.items ≡ out.old.items ++ flat_map fun_text (map plain_fun funs.now)) }
+    ensures { Adds result out.old out.new (flat_map fun_text (map plain_fun funs.now)) }
 {
     for function in funs {
         put_fun(out, function)?;
