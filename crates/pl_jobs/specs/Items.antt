@@ -5,7 +5,7 @@ use Rattle.atomic_table.specs.Seated.{TableId}
 use Rattle.atomic_table.specs.declared.shared.Seat.{Seat}
 use Rattle.pl_jobs.specs.declared.hand.Hand.{Hand}
 use Rattle.pl_jobs.specs.declared.work.Done.{Done}
-use Rattle.pl_jobs.specs.Numbers.{times}
+use Rattle.pl_jobs.specs.Numbers.{hand, times}
 
 -- the items that were done
 abbrev pub numbers : {T : Type 0} → List (Done T) → List ℕ
@@ -21,6 +21,11 @@ pub record Claimed {T : Type 0} (items count all : ℕ) (v : Hand) (done : List 
   pub same_all : v.all ≡ all
   pub same : (x : ℕ) → x < items → times x v.drawn ≡ times x (numbers done)
   pub past : EndsPast items v.drawn
+
+-- a seat of this table, whose one word is the counter: nothing was drawn at it yet, and it has so many claims left
+abbrev pub HasClaims : TableId → Seat (Unit {0}) Hand → ℕ → ℕ → ℕ → Type 0
+HasClaims table seat count each all =
+    (table.words ≡ 1) × (seat.table_id ≡ table) × (seat.me ≡ (hand [] count each all, []))
 
 -- the seat of the workers and the items that they did
 pub record DoneBy {W T : Type 0} (table : TableId) (gives : W → ℕ → T → Type 0) (work : W) (items count all : ℕ) (r : Seat (Unit {0}) Hand × Vec (Done T) Global) : Type 0 where

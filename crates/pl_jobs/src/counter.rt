@@ -1,5 +1,6 @@
 // The shared counter: one word of a table, from which workers draw numbers.
 ghost use Rattle.std.specs.Prelude.{◌≡◌, ◌<◌, ◌≤◌, ◌+◌, ◌*◌, ◌^◌, [], length, IfOk};
+ghost use Rattle.pl_jobs.specs.Items.{HasClaims};
 ghost use Rattle.pl_jobs.specs.Numbers.{hand, drew, gave, fresh, took, IsAll};
 
 use crate::hand::Hand;
@@ -109,7 +110,7 @@ pub type Numbered = Table<(), Hand, (u64, u64), Numbers, Global>;
 
 /// A counter at 0, and the seat that has all claims. It fails for want of memory alone.
 pub fn open(alloc: Global, all: u64, each: u64) -> Result<(Numbered, Taker), AllocError>
-    ensures seat { IfOk result (λ r. (r.1.table_id ≡ r.0.shared.table_id) × (r.0.shared.table_id.words ≡ 1) × (r.1.me ≡ (hand [] all each all, []))) }
+    ensures claims { IfOk result (λ r. HasClaims r.0.shared.table_id r.1 all each all) }
 {
     Table::of_words(alloc, &[0], &(all, each))
 }

@@ -38,9 +38,7 @@ pub fn run_claims<R: Threads + Sync, W: Work, G: Gate>(
     let all = u64::from(workers) * each;
     let (table, seat) = open(alloc, all, each)?;
     let counter = &table.shared;
-    let (mut seat, done) = crew(
-        rt, alloc, counter, seat, all, 0, workers, items, work, gate,
-    )?;
+    let (mut seat, done) = crew(rt, alloc, counter, seat, all, 0, workers, items, work, gate)?;
     let _count = learn(counter, &mut seat);
     in_order(alloc, items, done, work)
 }

@@ -123,7 +123,9 @@ fn a_gate_sees_each_claim(rt: HostRuntime) -> Result<(), Fail> {
     let results = run_claims(&rt, rt.alloc(), 2, 100, &Squares, &gate)?;
     assert_eq!(rt; results.len(), 100);
     assert!(rt; !gate.other.load(Ordering::SeqCst));
-    let claims = gate.claims[0].load(Ordering::SeqCst).wrapping_add(gate.claims[1].load(Ordering::SeqCst));
+    let claims = gate.claims[0]
+        .load(Ordering::SeqCst)
+        .wrapping_add(gate.claims[1].load(Ordering::SeqCst));
     assert_eq!(rt; claims, 102);
     Ok(())
 }

@@ -2,7 +2,7 @@
 ghost use Rattle.std.specs.Prelude.{◌≡◌, ◌<◌, ◌≤◌, ◌+◌, ◌*◌, ◌-◌, ◌^◌, [], IfOk};
 ghost use Rattle.std.specs.Result.{ForOk};
 ghost use Rattle.pl_jobs.specs.Numbers.{hand};
-ghost use Rattle.pl_jobs.specs.Items.{DoneBy};
+ghost use Rattle.pl_jobs.specs.Items.{DoneBy, HasClaims};
 ghost use denote.Param.Send.{IsSync};
 
 use crate::counter::{Counter, Taker, draw, split, take_in};
@@ -26,8 +26,7 @@ fn claim_all<W: Work, G: Gate>(
     work: &W,
     gate: &G,
 ) -> Result<Share<W::Out>, Memory>
-    requires table { (seat.table_id ≡ counter.now.table_id) × (counter.now.table_id.words ≡ 1) × (seat.me.1 ≡ []) }
-    requires fresh { seat.me.0 ≡ hand [] (items + 1) (items + 1) all }
+    requires claims { HasClaims counter.now.table_id seat (items + 1) (items + 1) all }
     requires few { items ≤ 4096 }
     ensures done { IfOk result (DoneBy counter.now.table_id W.gives work.now items (items + 1) all) }
 {
@@ -59,8 +58,7 @@ pub fn crew<R: Threads + Sync, W: Work, G: Gate>(
     work: &W,
     gate: &G,
 ) -> Result<Share<W::Out>, Memory>
-    requires table { (seat.table_id ≡ counter.now.table_id) × (counter.now.table_id.words ≡ 1) × (seat.me.1 ≡ []) }
-    requires fresh { seat.me.0 ≡ hand [] (workers * (items + 1)) (items + 1) all }
+    requires claims { HasClaims counter.now.table_id seat (workers * (items + 1)) (items + 1) all }
     requires few { (items ≤ 4096) × (0 < workers) × (worker + workers ≤ 64) }
     ensures claimed { IfOk result (DoneBy counter.now.table_id W.gives work.now items (workers * (items + 1)) all) }
 {
@@ -71,15 +69,21 @@ pub fn crew<R: Threads + Sync, W: Work, G: Gate>(
     let (here, there) = join(
         rt,
         || -> Result<Share<W::Out>, Memory>
-            requires { (mine.table_id ≡ counter.now.table_id) × (counter.now.table_id.words ≡ 1) × (mine.me.1 ≡ []) × (mine.me.0 ≡ hand [] (items + 1) (items + 1) all) × (items ≤ 4096) }
-            ensures { IfOk result (DoneBy counter.entry.now.table_id W.gives work.entry.now items (items + 1) all) }
+            requires { HasClaims counter.now.table_id mine (items + 1) (items + 1) all × (items ≤ 4096) }
+            ensures { IfOk result (DoneBy counter.entry.now.table_id W.gives work.entry.now items
+                (items + 1) all) }
         { claim_all(alloc, counter, mine, all, worker, items, work, gate) },
         || -> Result<Share<W::Out>, Memory>
-            requires { IsSync R.row × (seat.table_id ≡ counter.now.table_id) × (counter.now.table_id.words ≡ 1) × (seat.me.1 ≡ []) × (seat.me.0 ≡ hand [] ((workers - 1) * (items + 1)) (items + 1) all) × (items ≤ 4096) × (1 < workers) × (worker + workers ≤ 64) }
-            ensures { IfOk result (DoneBy counter.entry.now.table_id W.gives work.entry.now items ((workers - 1) * (items + 1)) all) }
+            requires { IsSync R.row
+                × HasClaims counter.now.table_id seat ((workers - 1) * (items + 1)) (items + 1) all
+                × (items ≤ 4096) × (1 < workers) × (worker + workers ≤ 64) }
+            ensures { IfOk result (DoneBy counter.entry.now.table_id W.gives work.entry.now items
+                ((workers - 1) * (items + 1)) all) }
         {
             let (next, others) = (worker + 1, workers - 1);
-            crew(rt, alloc, counter, seat, all, next, others, items, work, gate)
+            crew(
+                rt, alloc, counter, seat, all, next, others, items, work, gate,
+            )
         },
     );
     together(counter, here, there, all, workers, items, work)
@@ -97,9 +101,11 @@ fn together<W: Work>(
 ) -> Result<Share<W::Out>, Memory>
     requires table { counter.now.table_id.words ≡ 1 }
     requires here { ForOk here (DoneBy counter.now.table_id W.gives _work.now _items (_items + 1) _all) }
-    requires there { ForOk there (DoneBy counter.now.table_id W.gives _work.now _items ((_workers - 1) * (_items + 1)) _all) }
+    requires there { ForOk there (DoneBy counter.now.table_id W.gives _work.now _items
+        ((_workers - 1) * (_items + 1)) _all) }
     requires some { 0 < _workers }
-    ensures claimed { IfOk result (DoneBy counter.now.table_id W.gives _work.now _items (_workers * (_items + 1)) _all) }
+    ensures claimed { IfOk result (DoneBy counter.now.table_id W.gives _work.now _items
+        (_workers * (_items + 1)) _all) }
 {
     let (mut seat, mut done) = here?;
     let (other, mut rest) = there?;

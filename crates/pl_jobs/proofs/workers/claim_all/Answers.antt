@@ -9,14 +9,16 @@ use Rattle.pl_jobs.proofs.workers.claim_all.Goals as goal
 
 pub returns-then-number-from : goal.returns-then-number-from
 returns-then-number-from g c =
-    let i = c.claims.invariant in record { done = record {
-      of_table = c.draw-number.ensures.table.0 ∙ i.table;
-      free = ap (λ m. m.1) c.draw-number.ensures.drew ∙ i.free;
-      claimed =
-          claimed_past c.args.items c.args.all c.draw-number.result c.claims.recorded c.claims.seat.me.0 c.draw-number.new.seat.me.0 c.claims.done.items
-          (ap (λ m. m.0) c.draw-number.ensures.drew) i.drawn (omega arith) i.count i.left (omega arith) i.all;
-      each = i.gives;
-    }; }
+    let i = c.claims.invariant in record {
+      done = record {
+        of_table = c.draw-number.ensures.table.0 ∙ i.table;
+        free = ap (λ m. m.1) c.draw-number.ensures.drew ∙ i.free;
+        claimed =
+            claimed_past c.args.items c.args.all c.draw-number.result c.claims.recorded c.claims.seat.me.0 c.draw-number.new.seat.me.0 c.claims.done.items
+            (ap (λ m. m.0) c.draw-number.ensures.drew) i.drawn (omega arith) i.count i.left (omega arith) i.all;
+        each = i.gives;
+      };
+    }
 
 pub claims-preserved : goal.claims-preserved
 claims-preserved g c =

@@ -21,10 +21,12 @@ returns g c =
     let joined = c.in_ok-append.ensures.items in
     let u = c.take_in.new.seat.me.0 in
     let P : ℕ → Type 0 = λ n. Claimed {T = T} items n c.args._all u c.append.new.self.items in
-    let Q : List (Done T) → Type 0 = λ ds. All (λ (d : Done T). g.W.Work.gives c.args._work.now d.item d.out) ds in record { claimed = record {
-      of_table = c.take_in.ensures.table ∙ a.of_table;
-      free = ap (λ m. m.1) c.take_in.ensures.both ∙ a.free;
-      claimed = subst P (one_more c.args._workers items c.requires.some)
-          (claimed_both {T = T} items (items + 1) ((c.args._workers - 1) * (items + 1)) c.args._all c.in_ok-seat.seat.me.0 c.in_ok-other.other.me.0 u c.in_ok-seat.done.items c.in_ok-other.rest.items c.append.new.self.items a.claimed b.claimed (ap (λ m. m.0) c.take_in.ensures.both) joined);
-      each = subst Q (sym joined) (All-append (λ (d : Done T). g.W.Work.gives c.args._work.now d.item d.out) c.in_ok-seat.done.items c.in_ok-other.rest.items a.each b.each);
-    }; }
+    let Q : List (Done T) → Type 0 = λ ds. All (λ (d : Done T). g.W.Work.gives c.args._work.now d.item d.out) ds in record {
+      claimed = record {
+        of_table = c.take_in.ensures.table ∙ a.of_table;
+        free = ap (λ m. m.1) c.take_in.ensures.both ∙ a.free;
+        claimed = subst P (one_more c.args._workers items c.requires.some)
+            (claimed_both {T = T} items (items + 1) ((c.args._workers - 1) * (items + 1)) c.args._all c.in_ok-seat.seat.me.0 c.in_ok-other.other.me.0 u c.in_ok-seat.done.items c.in_ok-other.rest.items c.append.new.self.items a.claimed b.claimed (ap (λ m. m.0) c.take_in.ensures.both) joined);
+        each = subst Q (sym joined) (All-append (λ (d : Done T). g.W.Work.gives c.args._work.now d.item d.out) c.in_ok-seat.done.items c.in_ok-other.rest.items a.each b.each);
+      };
+    }
