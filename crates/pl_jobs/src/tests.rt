@@ -83,11 +83,14 @@ impl Gate for CountGate {
 }
 
 fn are_squares(results: &[u32]) -> bool {
-    let mut fine = true;
-    for k in 0..results.len() {
-        fine = fine && results[k] == (k as u32).wrapping_mul(k as u32);
+    let mut item: u32 = 0;
+    for result in results {
+        if *result != item.wrapping_mul(item) {
+            return false;
+        }
+        item = item.wrapping_add(1);
     }
-    fine
+    true
 }
 
 #[test]
