@@ -1,7 +1,7 @@
 // The shared counter: one word of a table, from which workers draw numbers.
-ghost use Rattle.std.specs.Prelude.{◌≡◌, ◌<◌, ◌≤◌, ◌+◌, ◌*◌, ◌^◌, [], length, IfOk};
+ghost use Rattle.std.specs.Prelude.{◌≡◌, ◌<◌, ◌≤◌, ◌+◌, [], length, IfOk};
 ghost use Rattle.pl_jobs.specs.Items.{HasClaims};
-ghost use Rattle.pl_jobs.specs.Numbers.{hand, drew, gave, fresh, took, IsAll};
+ghost use Rattle.pl_jobs.specs.Numbers.{drew, gave, fresh, took, IsAll};
 
 use crate::hand::Hand;
 use atomic_table::{Join, Play, Seat, Shared, Split, Table, TableRule};

@@ -1,6 +1,5 @@
 // Items done by workers that claim them from one counter.
-ghost use Rattle.std.specs.Prelude.{◌≡◌, ◌<◌, ◌≤◌, ◌*◌, [], IfOk, vec_len};
-ghost use Rattle.pl_jobs.specs.Numbers.{hand};
+ghost use Rattle.std.specs.Prelude.{◌≡◌, ◌≤◌, IfOk, vec_len};
 ghost use Rattle.pl_jobs.specs.Slots.{InOrder};
 
 use crate::counter::{learn, open};

@@ -1,12 +1,10 @@
 // Workers that claim items and do them.
-ghost use Rattle.std.specs.Prelude.{◌≡◌, ◌<◌, ◌≤◌, ◌+◌, ◌*◌, ◌-◌, ◌^◌, [], IfOk};
+ghost use Rattle.std.specs.Prelude.{◌≡◌, ◌<◌, ◌≤◌, ◌+◌, ◌*◌, ◌-◌, IfOk};
 ghost use Rattle.std.specs.Result.{ForOk};
-ghost use Rattle.pl_jobs.specs.Numbers.{hand};
 ghost use Rattle.pl_jobs.specs.Items.{DoneBy, HasClaims};
 ghost use denote.Param.Send.{IsSync};
 
 use crate::counter::{Counter, Taker, draw, split, take_in};
-use crate::hand::Hand;
 use crate::work::{Done, Work};
 use pl_base::{Gate, Memory};
 use std::alloc::Global;
