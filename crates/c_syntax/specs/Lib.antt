@@ -1,0 +1,7 @@
+pub mod Tree
+pub mod Plain
+pub mod PreludeText
+pub mod Text
+pub mod Forms
+pub mod Rules
+pub mod Fragment
