@@ -2,3 +2,9 @@ pub mod Tree
 pub mod Plain
 pub mod Values
 pub mod Resolve
+pub mod Local
+pub mod Blocks
+pub mod Compiled
+pub mod Effects
+pub mod Acts
+pub mod Rooms

@@ -1,5 +1,5 @@
 -- What an expression is worth, or its first fault.
-use Rattle.std.specs.Prelude.{ℕ, ℤ, pos, negsuc, ◌+ℤ◌, ◌-ℤ◌, ◌*ℤ◌, neg_ℤ, ◌^◌, ◌==◌, Bool, true, false, nat_lt, List, [], ◌∷◌, Option, Some, None, Result, Ok, Err, if◌then◌else◌, slice_get}
+use Rattle.std.specs.Prelude.{ℕ, suc, ℤ, pos, negsuc, ◌+ℤ◌, ◌-ℤ◌, ◌*ℤ◌, neg_ℤ, ◌^◌, ◌==◌, Bool, true, false, nat_lt, List, [], ◌∷◌, ◌++◌, Option, Some, None, Result, Ok, Err, if◌then◌else◌, slice_get, slice_set}
 use Rattle.std.specs.Prelude as std
 use Rattle.std.specs.Ordering.{int_eq}
 use Rattle.std.specs.Int.RustNames.{int_div, int_rem, int_lt, int_le}
@@ -128,7 +128,12 @@ eval env (Neg e) = chain (eval env e) negated
 eval env (Not e) = chain (eval env e) opposite
 eval env (Bin op a b) = joined op (eval env a) (eval env b)
 
--- the values of expressions in order, or the first fault
-abbrev pub eval_all : Env → List Term → Result (List Value) Fault
-eval_all env [] = Ok []
-eval_all env (e ∷ es) = chain (eval env e) (λ v. chain (eval_all env es) (λ vs. Ok (v ∷ vs)))
+-- the values of expressions in order, behind those, or the first fault
+abbrev pub eval_onto : List Value → Env → List Term → Result (List Value) Fault
+eval_onto vs env [] = Ok vs
+eval_onto vs env (e ∷ es) = chain (eval env e) (λ v. eval_onto (vs ++ v ∷ []) env es)
+
+-- the arguments of a call, in order, as the callee's locals from that number on
+abbrev pub arguments : Env → List Term → ℕ → Env → Result Env Fault
+arguments env [] x locals = Ok locals
+arguments env (e ∷ es) x locals = chain (eval env e) (λ v. arguments env es (suc x) (slice_set locals x v))

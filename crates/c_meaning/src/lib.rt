@@ -1,9 +1,14 @@
 //! The meaning of a C program: its threads, their events one at a time, and what each next event touches.
 #![tactic(auto)]
 
+mod act;
 mod action;
+mod code;
 mod eval;
+mod frame;
+mod locks;
 mod resolve;
 mod term;
+mod world;
 
 pub use action::{Action, Event, History, Next, Touch};
