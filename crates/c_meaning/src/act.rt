@@ -2,7 +2,7 @@ ghost use Rattle.std.specs.Prelude.{◌≡◌, ◌+◌, ◌≤◌, ◌<◌, ◌-
 ghost use Rattle.pl_resource.specs.Faults.{leaves};
 ghost use Rattle.c_meaning.specs.Plain.{plain_term, plain_place, plain_basic};
 ghost use Rattle.c_meaning.specs.Values.{eval_onto, arguments};
-ghost use Rattle.c_meaning.specs.Effects.{index_of, offset_of, base_of, block_at, cell_at, number_of, eval_number, count_of, lock_of_local, effect_of};
+ghost use Rattle.c_meaning.specs.Effects.{index_of, offset_of, base_of, block_at, cell_at, number_of, eval_number, count_of, has_fields, lock_of_local, effect_of};
 ghost use Rattle.c_meaning.specs.Acts.{shared, acted};
 ghost use Rattle.c_meaning.specs.Rooms.{BlockRoom, SmallRoom};
 
@@ -157,4 +157,119 @@ pub(crate) fn pass(args: &[Term], env: &[Value], locals: &mut Vec<Value>) -> Res
         x += 1;
     }
     Ok(())
+}
+
+/// What a statement does. `next` is the number of the next thread, and `locals` are those of the function that is
+/// called, before its arguments are in them.
+pub(crate) fn act(
+    basic: &Basic,
+    env: &mut Vec<Value>,
+    child: &mut Option<u32>,
+    world: &mut World,
+    locals: &mut Vec<Value>,
+    next: u32,
+) -> Result<(Action, Turn), Fault>
+    requires block { BlockRoom env.old.items (plain_basic basic.now) world.old }
+    requires small { SmallRoom world.old }
+    requires blocks { length world.old.heap.blocks < 2 ^ 32 - 1 }
+    requires locks { length world.old.locks.locks < 2 ^ 32 - 1 }
+    ensures { acted result (record { env = env.new.items; child = child.new }) (shared world.new) locals.new.items ≡ effect_of next locals.old.items (plain_basic basic.now) (record { env = env.old.items; child = child.old }) (shared world.old) }
+{
+    match basic {
+        Basic::Load(x, place, atomic) => {
+            let offset = offset_of(env, place)?;
+            let cell = cell_at(env, place.base(), offset)?;
+            let v = world.heap.load(cell, *atomic)?;
+            bind(env, *x as usize, v);
+            Ok((Action::Load(cell, v), Turn::Past))
+        }
+        Basic::Store(place, e, atomic) => {
+            let offset = offset_of(env, place)?;
+            let v = evaluate(e, env)?;
+            let cell = cell_at(env, place.base(), offset)?;
+            world.heap.store(cell, *atomic, v)?;
+            Ok((Action::Store(cell, v), Turn::Past))
+        }
+        Basic::Cas(x, base, old, new) => {
+            let a = number(env, old)?;
+            let b = number(env, new)?;
+            let cell = cell_at(env, *base, Offset { index: 0, field: 0 })?;
+            let (seen, done) = world.heap.cas(cell, a, b)?;
+            bind(env, *x as usize, Value::Truth(done));
+            Ok((Action::Cas(cell, seen, done), Turn::Past))
+        }
+        Basic::Make(x, atomic, first, count) => {
+            world.first.clear();
+            evaluate_onto(first.as_slice(), env, &mut world.first)?;
+            let count = count_of(number(env, count)?)?;
+            if !has_fields(&world.first) {
+                return Err(Fault::Kind);
+            }
+            let Ok(block) = world.heap.make(*atomic, &world.first, count) else {
+                unreachable!();
+            };
+            bind(env, *x as usize, Value::Block(block));
+            Ok((Action::Alloc(block, count), Turn::Past))
+        }
+        Basic::Free(base) => match local(env, *base)? {
+            Value::Block(block) => {
+                world.heap.free(block)?;
+                Ok((Action::Free(block), Turn::Past))
+            }
+            Value::Lock(lock) => {
+                world.locks.end(lock)?;
+                Ok((Action::FreeLock(lock), Turn::Past))
+            }
+            Value::Null => Err(Fault::Null),
+            _ => Err(Fault::Kind),
+        },
+        Basic::NewLock(x) => {
+            let lock = world.locks.push();
+            bind(env, *x as usize, Value::Lock(lock));
+            Ok((Action::NewLock(lock), Turn::Past))
+        }
+        Basic::Acquire(x) => {
+            let lock = lock_of(env, *x)?;
+            world.locks.acquire(lock)?;
+            Ok((Action::Acquire(lock), Turn::Past))
+        }
+        Basic::Release(x) => {
+            let lock = lock_of(env, *x)?;
+            world.locks.release(lock)?;
+            Ok((Action::Release(lock), Turn::Past))
+        }
+        Basic::Read(x) => {
+            let n = take(&world.input, &mut world.at);
+            bind(env, *x as usize, Value::Int(n));
+            Ok((Action::Read(n), Turn::Past))
+        }
+        Basic::Print(e) => {
+            let n = number(env, e)?;
+            world.outputs.push_reserved(n);
+            Ok((Action::Print(n), Turn::Past))
+        }
+        Basic::Join => match *child {
+            Some(thread) => Ok((Action::Join(thread), Turn::Past)),
+            None => Err(Fault::Kind),
+        },
+        Basic::Call(into, f, args) => {
+            pass(args.as_slice(), env, locals)?;
+            Ok((Action::Call(*f), Turn::Call(*into)))
+        }
+        Basic::Fork(_, args) => {
+            pass(args.as_slice(), env, locals)?;
+            *child = Some(next);
+            Ok((Action::Fork(next), Turn::Fork))
+        }
+        Basic::Return(e) => {
+            let v = evaluate(e, env)?;
+            Ok((Action::Return, Turn::Return(v)))
+        }
+    }
+}
+
+fn has_fields(first: &[Value]) -> bool
+    ensures { result ≡ has_fields first.now }
+{
+    0 < first.len() && first.len() < 4294967295
 }
