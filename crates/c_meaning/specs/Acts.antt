@@ -18,7 +18,7 @@ abbrev pub turn_of : Env → code.Turn → Turn
 turn_of locals turn.Past = Past
 turn_of locals (turn.Call into) = Calls locals into
 turn_of locals turn.Fork = Forks locals
-turn_of locals (turn.Return v) = Returns (Some v)
+turn_of locals (turn.Return v) = Returns v
 
 abbrev pub acted : Result (Action × code.Turn) Fault → Own → World → Env → Result Effect Fault
 acted (Err f) own world locals = Err f

@@ -74,7 +74,7 @@ count_of (pos n) = if nat_lt zero n && nat_lt n 1048577 then Ok n else Err fault
 count_of (negsuc n) = Err fault.Outside
 
 -- an element has from 1 to 2^32 - 2 fields
-abbrev pub has_fields : List Value → Bool
+abbrev pub has_fields : {A : Type 0} → List A → Bool
 has_fields first = nat_lt zero (length first) && nat_lt (length first) far
 
 abbrev pub lock_at : Value → Result ℕ Fault

@@ -8,3 +8,7 @@ pub mod Compiled
 pub mod Effects
 pub mod Acts
 pub mod Rooms
+pub mod Touches
+pub mod Touching
+pub mod Events
+pub mod Steps

@@ -21,7 +21,7 @@ pub(crate) enum Turn {
     /// Into a function, whose result goes into that local.
     Call(Option<u32>),
     Fork,
-    Return(Value),
+    Return(Option<Value>),
 }
 
 /// Where a cell stands in its block.
@@ -263,7 +263,7 @@ pub(crate) fn act(
         }
         Basic::Return(e) => {
             let v = evaluate(e, env)?;
-            Ok((Action::Return, Turn::Return(v)))
+            Ok((Action::Return, Turn::Return(Some(v))))
         }
     }
 }

@@ -9,6 +9,7 @@ mod frame;
 mod locks;
 mod resolve;
 mod term;
+mod touch;
 mod world;
 
 pub use action::{Action, Event, History, Next, Touch};
