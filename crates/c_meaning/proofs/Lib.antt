@@ -6,3 +6,4 @@ pub mod Runs
 pub mod Tables
 pub mod Folds
 pub mod Held
+pub mod FrameEvents

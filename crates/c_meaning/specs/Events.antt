@@ -94,15 +94,14 @@ quiet action own world turn left =
     record { effect = record { action = action; env = own.env; child = own.child; world = world; turn = turn }; left = left }
 
 -- The event of the statements that are left, or the fault before which they stand. A function's end returns, and a loop's
--- head is an event before its loads and its test.
-abbrev pub event_in : List Function → ℕ → Stmts → Own → World → Result Done Fault
-event_in functions next end own world = Ok (quiet act.Return own world (Returns None) end)
-event_in functions next (more (Do b) rest) own world =
-    chain (effect_of next (blank (function_numbered functions (callee b))) b own world) (λ e. Ok (record { effect = e; left = rest }))
-event_in functions next (more (While l e b) rest) own world = Ok (quiet act.Turn own world Past (both l (more (Check l e b) rest)))
-event_in functions next (more (Check l e b) rest) own world = faulted (eval own.env e)
-event_in functions next (more (Let x e) rest) own world = faulted (eval own.env e)
-event_in functions next (more (If e a b) rest) own world = faulted (eval own.env e)
+-- head is an event before its loads and its test. `locals` are those of the function that is called.
+abbrev pub event_in : ℕ → Env → Stmts → Own → World → Result Done Fault
+event_in next locals end own world = Ok (quiet act.Return own world (Returns None) end)
+event_in next locals (more (Do b) rest) own world = chain (effect_of next locals b own world) (λ e. Ok (record { effect = e; left = rest }))
+event_in next locals (more (While l e b) rest) own world = Ok (quiet act.Turn own world Past (both l (more (Check l e b) rest)))
+event_in next locals (more (Check l e b) rest) own world = faulted (eval own.env e)
+event_in next locals (more (Let x e) rest) own world = faulted (eval own.env e)
+event_in next locals (more (If e a b) rest) own world = faulted (eval own.env e)
 
 -- ---- the event of a thread
 
@@ -143,6 +142,10 @@ state_after functions state t frame callers done =
       threads = slice_set state.threads t (frames_after f done.effect.turn (frame_behind frame done) callers) ++ forked f done.effect.turn;
     }
 
+-- the event of a frame, in a state with so many threads
+abbrev pub event_of_frame : List Function → ℕ → Frame → World → Result Done Fault
+event_of_frame functions next frame world = event_in next (blank (called functions frame.left)) frame.left (own_of frame) world
+
 -- the frames of a thread
 abbrev pub thread_of : State → ℕ → Thread
 thread_of state t = slice_index_or state.threads t []
@@ -152,7 +155,7 @@ thread_of state t = slice_index_or state.threads t []
 abbrev pub event_from : List Function → State → ℕ → Thread → Option (Result (Action × State) Fault)
 event_from functions state t [] = None
 event_from functions state t (frame ∷ callers) =
-    Some (chain (event_in functions (length state.threads) frame.left (own_of frame) state.world) (λ done.
+    Some (chain (event_of_frame functions (length state.threads) frame state.world) (λ done.
     Ok (done.effect.action, state_after functions state t frame callers done)))
 
 abbrev pub event_of : List Function → State → ℕ → Option (Result (Action × State) Fault)
@@ -172,7 +175,7 @@ next_by atomic (Ok done) = next.Act (touch_of atomic done.effect.action)
 abbrev pub next_from : List Function → State → Thread → Next
 next_from functions state [] = next.Ended
 next_from functions state (frame ∷ callers) =
-    next_by (atomic_at frame.left) (event_in functions (length state.threads) frame.left (own_of frame) state.world)
+    next_by (atomic_at frame.left) (event_of_frame functions (length state.threads) frame state.world)
 
 -- what a thread stands before: an action, a fault or its end
 abbrev pub next_of : List Function → State → ℕ → Next

@@ -12,3 +12,4 @@ pub mod Touches
 pub mod Touching
 pub mod Events
 pub mod Steps
+pub mod Machine

@@ -9,6 +9,7 @@ mod frame;
 mod locks;
 mod resolve;
 mod term;
+mod thread;
 mod touch;
 mod world;
 
