@@ -7,3 +7,4 @@ pub mod Tables
 pub mod Folds
 pub mod Held
 pub mod FrameEvents
+pub mod Threads

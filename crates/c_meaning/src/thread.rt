@@ -7,8 +7,8 @@ ghost use Rattle.c_meaning.specs.Local.{nest};
 ghost use Rattle.c_meaning.specs.Blocks.{IsTable, tree, left, fits, ops_at};
 ghost use Rattle.c_meaning.specs.Acts.{shared, turn_of};
 ghost use Rattle.c_meaning.specs.Rooms.{SmallRoom};
-ghost use Rattle.c_meaning.specs.Events.{callee, callee_at, function_numbered, settled, begun, event_in, faulted, resumed, called, blank};
-ghost use Rattle.c_meaning.specs.Machine.{IsCode, function_shown, functions_shown, shown_or_none, frame_shown, frames_shown, FrameFits, AllFit, ForkFits, AtOp, Taken, stepped, BlockRoomAt, IsSpare, RoomAt, moved_of, advanced, depth_of};
+ghost use Rattle.c_meaning.specs.Events.{callee, callee_at, function_numbered, settled, begun, event_in, faulted, received, resumed, frames_after, forked};
+ghost use Rattle.c_meaning.specs.Machine.{IsCode, function_shown, functions_shown, shown_or_none, frame_shown, frames_shown, FrameFits, AllFit, ForkFits, AtOp, Taken, stepped, BlockRoomAt, IsSpare, RoomAt, moved_of, advanced, depth_of, fork_shown};
 
 use crate::act::{Turn, act};
 use crate::action::Action;
@@ -176,5 +176,189 @@ fn event(
         }
         Op::Let(_, e) => Err(stuck(e, env)),
         Op::If(e, _, _) => Err(stuck(e, env)),
+    }
+}
+
+// The place before a function's first statement.
+fn enter(code: &[Block], function: Option<Function>, spots: Vec<Spot>) -> Vec<Spot>
+    requires table { IsTable code.now }
+    requires empty { spots.items ≡ [] }
+    requires places { suc (nest (shown_or_none code.now function).body) ≤ vec_capacity spots }
+    ensures left { left code.now result.items ≡ (shown_or_none code.now function).body }
+    ensures fits { fits code.now 0 (vec_capacity result) result.items }
+{
+    let mut spots = spots;
+    match function {
+        None => spots,
+        Some(f) => {
+            spots.push_reserved(first_of(f.body));
+            spots
+        }
+    }
+}
+
+// A function's frame, with its arguments in its locals.
+fn begin(code: &[Block], function: Option<Function>, spare: Frame, into: Option<u32>) -> Frame
+    requires table { IsTable code.now }
+    requires empty { spare.spots.items ≡ [] }
+    requires places { suc (nest (shown_or_none code.now function).body) ≤ vec_capacity spare.spots }
+    ensures shown { frame_shown code.now result ≡ begun (shown_or_none code.now function) spare.env.items into }
+    ensures fits { FrameFits code.now result }
+{
+    let Frame { spots, mut env, .. } = spare;
+    let mut spots = enter(code, function, spots);
+    run_local(code, &mut spots, &mut env);
+    Frame {
+        spots,
+        env,
+        into,
+        child: None,
+    }
+}
+
+// Runs the local statements of a frame.
+fn go_on(code: &[Block], frame: Frame) -> Frame
+    requires table { IsTable code.now }
+    requires fits { FrameFits code.now frame }
+    ensures shown { frame_shown code.now result ≡ settled (left code.now frame.spots.items) frame.env.items frame.into frame.child }
+    ensures fits { FrameFits code.now result }
+{
+    let Frame {
+        mut spots,
+        mut env,
+        into,
+        child,
+    } = frame;
+    run_local(code, &mut spots, &mut env);
+    Frame {
+        spots,
+        env,
+        into,
+        child,
+    }
+}
+
+// A caller's local gets the result.
+fn receive(env: &mut Vec<Value>, into: Option<u32>, answer: Option<Value>)
+    ensures { env.new.items ≡ received env.old.items into answer }
+{
+    if let Some(x) = into {
+        if let Some(value) = answer {
+            bind(env, x as usize, value);
+        }
+    }
+}
+
+// A caller goes on, if there is one.
+#[tactic(auto, using(crate::proofs::Threads::fit_front, crate::proofs::Threads::fit_snoc, crate::proofs::Threads::shown_snoc))]
+fn resume(code: &[Block], frames: &mut Vec<Frame>, into: Option<u32>, answer: Option<Value>)
+    requires table { IsTable code.now }
+    requires fits { AllFit code.now frames.old.items }
+    ensures shown { frames_shown code.now frames.new.items ≡ resumed into answer (frames_shown code.now frames.old.items) }
+    ensures fits { AllFit code.now frames.new.items }
+    ensures capacity { vec_capacity frames.new ≡ vec_capacity frames.old }
+{
+    let Some(mut caller) = frames.pop() else {
+        return;
+    };
+    receive(&mut caller.env, into, answer);
+    frames.push_reserved(go_on(code, caller));
+}
+
+/// The next event of a thread with these frames. `spare` is a frame for the function that is called.
+pub(crate) fn advance(
+    code: &[Block],
+    functions: &[Function],
+    frames: &mut Vec<Frame>,
+    spare: Frame,
+    world: &mut World,
+    next: u32,
+) -> Result<(Action, Option<Frame>), Fault>
+    requires code { IsCode code.now functions.now }
+    requires fits { AllFit code.now frames.old.items }
+    requires room { RoomAt (functions_shown code.now functions.now) (frames_shown code.now frames.old.items) world.old spare }
+    requires frames { vec_len frames.old < vec_capacity frames.old }
+    requires small { SmallRoom world.old }
+    requires blocks { length world.old.heap.blocks < 2 ^ 32 - 1 }
+    requires locks { length world.old.locks.locks < 2 ^ 32 - 1 }
+    ensures moves { advanced code.now result (frames_shown code.now frames.new.items) (shared world.new) ≡ moved_of (functions_shown code.now functions.now) next (frames_shown code.now frames.old.items) (shared world.old) }
+    ensures fits { OnOk result (AllFit code.now frames.new.items) }
+    ensures fork { IfOk result (λ r. ForkFits code.now r.1) }
+{
+    let Some(frame) = frames.pop() else {
+        return Err(Fault::Kind);
+    };
+    let function = function_at(functions, callee_at(code, &frame.spots));
+    let Frame {
+        mut spots,
+        mut env,
+        into,
+        mut child,
+    } = frame;
+    let Frame {
+        spots: places,
+        env: mut locals,
+        ..
+    } = spare;
+    match event(code, &mut spots, &mut env, &mut child, world, &mut locals, next) {
+        Err(fault) => Err(fault),
+        Ok((action, turn)) => {
+            let now = Frame {
+                spots,
+                env,
+                into,
+                child,
+            };
+            let other = Frame {
+                spots: places,
+                env: locals,
+                into: None,
+                child: None,
+            };
+            let forked = turn_to(code, function, frames, now, other, turn);
+            Ok((action, forked))
+        }
+    }
+}
+
+// Where a thread goes from an event of its innermost frame.
+#[tactic(auto, using(crate::proofs::Threads::fit_snoc, crate::proofs::Threads::shown_snoc))]
+fn turn_to(
+    code: &[Block],
+    function: Option<Function>,
+    frames: &mut Vec<Frame>,
+    now: Frame,
+    other: Frame,
+    turn: Turn,
+) -> Option<Frame>
+    requires table { IsTable code.now }
+    requires callers { AllFit code.now frames.old.items }
+    requires fits { FrameFits code.now now }
+    requires empty { other.spots.items ≡ [] }
+    requires places { suc (nest (shown_or_none code.now function).body) ≤ vec_capacity other.spots }
+    requires room { vec_len frames.old + 2 ≤ vec_capacity frames.old }
+    ensures frames { frames_shown code.now frames.new.items ≡ frames_after (shown_or_none code.now function) (turn_of other.env.items turn) (frame_shown code.now now) (frames_shown code.now frames.old.items) }
+    ensures fork { fork_shown code.now result ≡ forked (shown_or_none code.now function) (turn_of other.env.items turn) }
+    ensures fits { AllFit code.now frames.new.items }
+    ensures child { ForkFits code.now result }
+{
+    match turn {
+        Turn::Past => {
+            frames.push_reserved(go_on(code, now));
+            None
+        }
+        Turn::Call(into) => {
+            frames.push_reserved(now);
+            frames.push_reserved(begin(code, function, other, into));
+            None
+        }
+        Turn::Fork => {
+            frames.push_reserved(go_on(code, now));
+            Some(begin(code, function, other, None))
+        }
+        Turn::Return(value) => {
+            resume(code, frames, now.into, value);
+            None
+        }
     }
 }
