@@ -8,3 +8,4 @@ pub mod Folds
 pub mod Held
 pub mod FrameEvents
 pub mod Threads
+pub mod Touched

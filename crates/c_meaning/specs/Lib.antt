@@ -13,3 +13,4 @@ pub mod Touching
 pub mod Events
 pub mod Steps
 pub mod Machine
+pub mod States

@@ -8,9 +8,11 @@ mod eval;
 mod frame;
 mod locks;
 mod resolve;
+mod state;
 mod term;
 mod thread;
 mod touch;
 mod world;
 
 pub use action::{Action, Event, History, Next, Touch};
+pub use state::CState;

@@ -120,7 +120,7 @@ fn take_place<'a>(code: &'a [Block], spots: &mut Vec<Spot>) -> Option<(Spot, &'a
 }
 
 // The fault of a let or a test that is left.
-fn stuck(e: &Term, env: &[Value]) -> Fault
+pub(crate) fn stuck(e: &Term, env: &[Value]) -> Fault
     ensures { Err result ≡ faulted (eval env.now (plain_term e.now)) }
 {
     match evaluate(e, env) {

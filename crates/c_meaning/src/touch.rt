@@ -15,7 +15,7 @@ use crate::term::{Basic, Term};
 use crate::world::World;
 use pl_resource::{Cell, Fault, Heap, Value};
 
-fn untouched() -> Touch
+pub(crate) fn untouched() -> Touch
     ensures { result ≡ untouched }
 {
     Touch {
