@@ -1,6 +1,7 @@
 -- The memory that an event needs.
 use Rattle.std.specs.Prelude.{◌≡◌, ℕ, ◌≤◌, ◌<◌, ⊤, List, Option, Some, Ok, IsTrue, length, vec_len, vec_capacity}
 use Rattle.pl_resource.specs.Faults.{chain}
+use Rattle.pl_resource.specs.Heap.{IsFields}
 use Rattle.c_meaning.specs.declared.world.World.{World}
 use Rattle.c_meaning.specs.Tree.{Basic, Make}
 use Rattle.c_meaning.specs.Values.{Env}
@@ -9,7 +10,7 @@ use Rattle.c_meaning.specs.Effects.{eval_number, count_of}
 -- there is room for the block that an operation makes
 abbrev pub BlockRoom : Env → Basic → World → Type 0
 BlockRoom env (Make x atomic first count) w =
-    (length first ≤ vec_capacity w.first) × ((n : ℕ) → chain (eval_number env count) count_of ≡ Ok n → w.heap.room ≡ Some (length first, n))
+    (length first ≤ vec_capacity w.first) × ((n : ℕ) → chain (eval_number env count) count_of ≡ Ok n → IsFields (length first) → w.heap.room ≡ Some (length first, n))
 BlockRoom env _ w = ⊤
 
 -- there is room for a lock and for a printed number

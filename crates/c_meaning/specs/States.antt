@@ -1,5 +1,5 @@
 -- What a machine holds, and the state that it shows.
-use Rattle.std.specs.Prelude.{◌≡◌, ℕ, ◌≤◌, ◌<◌, ◌^◌, ⊤, List, [], ◌∷◌, Option, Some, None, Result, map, length, slice_get, vec_len, vec_capacity}
+use Rattle.std.specs.Prelude.{◌≡◌, ℕ, ◌≤◌, ◌<◌, ◌^◌, ⊤, List, [], ◌∷◌, ◌++◌, Option, Some, None, Result, map, length, slice_get, vec_len, vec_capacity}
 use Rattle.c_syntax.specs.Tree.{Program}
 use Rattle.c_meaning.specs.declared.code.Block.{Block}
 use Rattle.c_meaning.specs.declared.thread.Function as rust
@@ -44,12 +44,23 @@ abbrev pub FramesRoom : Option thread.Thread → Type 0
 FramesRoom None = ⊤
 FramesRoom (Some t) = vec_len t.frames < vec_capacity t.frames
 
-abbrev pub shown_at : List Block → Option thread.Thread → Thread
-shown_at T None = []
-shown_at T (Some t) = thread_shown T t
+
+abbrev pub frames_at : Option thread.Thread → List machine.Frame
+frames_at None = []
+frames_at (Some t) = t.frames.items
+
+-- it is the last of those frames
+pub record IsLast (fs : List machine.Frame) (f : machine.Frame) : Type 0 where
+  pub before : List machine.Frame
+  pub is : fs ≡ before ++ f ∷ []
 
 -- the memory that the next event of a thread needs
 pub record HasRoom (T : List Block) (F : List Function) (o : Option thread.Thread) (world : w.World) (spare : machine.Frame) : Type 0 where
   pub small : SmallRoom world
   pub frames : FramesRoom o
-  pub at : RoomAt F (shown_at T o) world spare
+  pub at : RoomAt F (frames_shown T (frames_at o)) world spare
+
+-- a thread with that frame was added, if there is one
+abbrev pub ThreadAdded : List thread.Thread → List thread.Thread → Option machine.Frame → Type 0
+ThreadAdded before after None = after ≡ before
+ThreadAdded before after (Some f) = (t : thread.Thread) × (after ≡ before ++ t ∷ []) × (t.frames.items ≡ f ∷ [])

@@ -1,4 +1,4 @@
-ghost use Rattle.std.specs.Prelude.{◌≡◌, ◌≤◌, ◌<◌, ◌-◌, ◌^◌, ◌++◌, ◌∷◌, [], IsTrue, IfOk, OnOk, OnErr, Some, None, length, map, true, slice_get, slice_set, vec_len, vec_capacity};
+ghost use Rattle.std.specs.Prelude.{◌≡◌, ◌≤◌, ◌<◌, ◌-◌, ◌^◌, ◌++◌, ◌∷◌, [], IsTrue, IfOk, IfSome, IfNone, OnOk, OnErr, Ok, Some, None, length, map, true, slice_get, slice_set, vec_len, vec_capacity};
 ghost use Rattle.c_syntax.specs.Plain.{plain_program};
 ghost use Rattle.c_meaning.specs.Steps.{Step, start_of};
 ghost use Rattle.c_meaning.specs.Acts.{shared};
@@ -6,13 +6,20 @@ ghost use Rattle.c_meaning.specs.Events.{next_of, next_by, atomic_at, event_of_f
 ghost use Rattle.std.specs.Prelude.{ℕ, List};
 ghost use Rattle.c_meaning.specs.Tree as tree;
 ghost use Rattle.c_meaning.specs.Blocks.{IsTable};
-ghost use Rattle.c_meaning.specs.Machine.{frame_shown};
-ghost use Rattle.c_meaning.specs.States.{shown, runs, IsFor};
+ghost use Rattle.c_meaning.specs.Machine.{frame_shown, functions_shown, shown_or_none, depth_of, IsCode, IsSpare, BlockRoomAt};
+ghost use Rattle.c_meaning.specs.Local.{nest};
+ghost use Rattle.c_meaning.specs.Plain.{plain_term};
+ghost use Rattle.c_meaning.specs.Effects.{eval_number, count_of};
+ghost use Rattle.pl_resource.specs.Faults.{chain};
+ghost use Rattle.pl_resource.specs.Heap.{IsFields};
+ghost use Rattle.c_meaning.specs.declared.code.Block.{Block};
+ghost use Rattle.c_meaning.specs.States.{shown, runs, IsFor, IsLast, frames_at, HasRoom, ThreadAdded};
 
 use crate::action::{Action, Event, Next};
 use crate::code::{Block, Op};
-use crate::frame::Spot;
-use crate::thread::{Frame, Function, advance, current, stuck};
+use crate::act::{count_of, number};
+use crate::term::{Basic, Term};
+use crate::thread::{Frame, Function, advance, callee_at, current, function_at, stuck};
 use crate::touch::{touching, untouched};
 use crate::world::World;
 use c_syntax::CProgram;
@@ -83,18 +90,75 @@ impl CState {
         self.world.outputs.as_slice()
     }
 
+    /// Makes room for the next event of a thread. A refusal leaves room for none.
+    pub fn make_room(&mut self, program: &CProgram, tid: u32) -> Result<(), Memory>
+        requires thread { tid < length (shown self.old).threads }
+        requires program { IsFor (plain_program program.now) self.old }
+        ensures same { shown self.new ≡ shown self.old }
+        ensures program { IsFor (plain_program program.now) self.new }
+        ensures ok { OnOk result (self.new.ready ≡ Some tid) }
+        ensures refused { OnErr result (self.new.ready ≡ None) }
+    {
+        self.ready = None;
+        let mut frames = take_frames(&mut self.threads, tid as usize, Vec::new(self.alloc));
+        let made = prepare(
+            self.alloc,
+            self.blocks.as_slice(),
+            self.functions.as_slice(),
+            &mut frames,
+            &mut self.world,
+        );
+        put_frames(&mut self.threads, tid as usize, frames);
+        self.spare = made?;
+        self.frames = Vec::with_capacity(self.alloc, 1)?;
+        self.threads.reserve(1)?;
+        self.ready = Some(tid);
+        Ok(())
+    }
+
+    /// The next event of a thread. It takes no memory.
+    pub fn step(&mut self, program: &CProgram, tid: u32) -> Event
+        requires thread { tid < length (shown self.old).threads }
+        requires program { IsFor (plain_program program.now) self.old }
+        requires enabled { is_enabled (runs self.old) (shown self.old) tid ≡ true }
+        requires room { self.old.ready ≡ Some tid }
+        requires blocks { length (shown self.old).world.blocks < 2 ^ 32 - 1 }
+        requires locks { length (shown self.old).world.locks < 2 ^ 32 - 1 }
+        requires threads { length (shown self.old).threads < 2 ^ 32 - 1 }
+        ensures event { Step (plain_program program.now) (shown self.old) tid result (shown self.new) }
+        ensures program { IsFor (plain_program program.now) self.new }
+        ensures used { self.new.ready ≡ None }
+    {
+        let next = self.threads.len() as u32;
+        self.ready = None;
+        let mut frames = take_frames(&mut self.threads, tid as usize, Vec::new(self.alloc));
+        let spare = mem::replace(&mut self.spare, empty_frame(self.alloc));
+        let first = mem::replace(&mut self.frames, Vec::new(self.alloc));
+        let moved = advance(
+            self.blocks.as_slice(),
+            self.functions.as_slice(),
+            &mut frames,
+            spare,
+            &mut self.world,
+            next,
+        );
+        put_frames(&mut self.threads, tid as usize, frames);
+        let Ok((action, forked)) = moved else {
+            unreachable!();
+        };
+        add_thread(&mut self.threads, first, forked);
+        Event { tid, action }
+    }
+
     /// What a thread stands before: an action with what this touches, a fault, or its end.
     pub fn next_action(&self, tid: u32) -> Next
         requires { tid < length (shown self.now).threads }
         ensures { result ≡ next_of (runs self.now) (shown self.now) tid }
     {
-        let Some(thread) = self.threads.get(tid as usize) else {
-            return Next::Ended;
-        };
-        let Some(frame) = thread.frames.last() else {
-            return Next::Ended;
-        };
-        next_of_frame(self.blocks.as_slice(), frame, &self.world)
+        match last_frame(frames_of(self.threads.as_slice(), tid as usize)) {
+            None => Next::Ended,
+            Some(frame) => next_of_frame(self.blocks.as_slice(), frame, &self.world),
+        }
     }
 
     /// Whether a thread may do its next action: its next is an action, a lock that it wants is free, and a thread that it
@@ -150,5 +214,149 @@ fn next_of_frame(code: &[Block], frame: &Frame, world: &World) -> Next
         Some((true, Op::While(_, e, _))) => Next::Fault(stuck(e, env)),
         Some((_, Op::Let(_, e))) => Next::Fault(stuck(e, env)),
         Some((_, Op::If(e, _, _))) => Next::Fault(stuck(e, env)),
+    }
+}
+
+fn empty_frame(alloc: Global) -> Frame {
+    Frame {
+        spots: Vec::new(alloc),
+        env: Vec::new(alloc),
+        into: None,
+        child: None,
+    }
+}
+
+// The frames of a thread, the innermost last.
+fn frames_of(threads: &[Thread], t: usize) -> &[Frame]
+    ensures { result.now ≡ frames_at (slice_get threads.now t) }
+{
+    match threads.get(t) {
+        Some(thread) => thread.frames.as_slice(),
+        None => &[],
+    }
+}
+
+fn last_frame(frames: &[Frame]) -> Option<&Frame>
+    ensures some { IfSome result (λ f. IsLast frames.now f.now) }
+    ensures none { IfNone result (frames.now ≡ []) }
+{
+    match frames {
+        [] => None,
+        [_before @ .., frame] => Some(frame),
+    }
+}
+
+// Takes a thread's frames out.
+fn take_frames(threads: &mut Vec<Thread>, t: usize, empty: Vec<Frame>) -> Vec<Frame>
+    requires { t < length threads.old.items }
+    ensures frames { slice_get threads.old.items t ≡ Some (record { frames = result }) }
+    ensures rest { threads.new.items ≡ slice_set threads.old.items t (record { frames = empty }) }
+    ensures len { vec_len threads.new ≡ vec_len threads.old }
+    ensures capacity { vec_capacity threads.new ≡ vec_capacity threads.old }
+{
+    mem::replace(&mut threads[t].frames, empty)
+}
+
+fn put_frames(threads: &mut Vec<Thread>, t: usize, frames: Vec<Frame>)
+    requires { t < length threads.old.items }
+    ensures items { threads.new.items ≡ slice_set threads.old.items t (record { frames = frames }) }
+    ensures len { vec_len threads.new ≡ vec_len threads.old }
+    ensures capacity { vec_capacity threads.new ≡ vec_capacity threads.old }
+{
+    threads[t].frames = frames;
+}
+
+// Adds the thread that an event has started, if it has.
+fn add_thread(threads: &mut Vec<Thread>, first: Vec<Frame>, frame: Option<Frame>)
+    requires room { vec_len threads.old < vec_capacity threads.old }
+    requires empty { first.items ≡ [] }
+    requires place { 1 ≤ vec_capacity first }
+    ensures { ThreadAdded threads.old.items threads.new.items frame }
+{
+    match frame {
+        None => {}
+        Some(frame) => {
+            let mut frames = first;
+            frames.push_reserved(frame);
+            threads.push_reserved(Thread { frames });
+        }
+    }
+}
+
+// A frame with room for a function, before its arguments are in it.
+fn spare_frame(alloc: Global, function: Option<Function>) -> Result<Frame, Memory>
+    ensures { IfOk result (λ f. (T : List Block) → nest (shown_or_none T function).body ≤ depth_of function → IsSpare (shown_or_none T function) f) }
+{
+    let (depth, slots) = match function {
+        None => (0, 0),
+        Some(f) => (f.depth, f.slots),
+    };
+    Ok(Frame {
+        spots: Vec::with_capacity(alloc, depth as usize + 1)?,
+        env: vec![in alloc; Value::Null; slots as usize]?,
+        into: None,
+        child: None,
+    })
+}
+
+// Room for the block that a frame makes next, if it makes one.
+fn block_room(code: &[Block], frame: &Frame, world: &mut World) -> Result<(), Memory>
+    requires { IsTable code.now }
+    ensures same { shared world.new ≡ shared world.old }
+    ensures room { OnOk result (BlockRoomAt frame.now.env.items (frame_shown code.now frame.now).left world.new) }
+    ensures locks { world.new.locks ≡ world.old.locks }
+    ensures outputs { world.new.outputs ≡ world.old.outputs }
+{
+    match current(code, frame.spots.as_slice()) {
+        Some((_, Op::Do(Basic::Make(_, _, first, count)))) => {
+            make_block_room(frame.env.as_slice(), first.as_slice(), count, world)
+        }
+        _ => Ok(()),
+    }
+}
+
+fn make_block_room(env: &[Value], first: &[Term], count: &Term, world: &mut World) -> Result<(), Memory>
+    ensures same { shared world.new ≡ shared world.old }
+    ensures first { OnOk result (length first.now ≤ vec_capacity world.new.first) }
+    ensures block { OnOk result ((n : ℕ) → chain (eval_number env.now (plain_term count.now)) count_of ≡ Ok n → IsFields (length first.now) → world.new.heap.room ≡ Some (length first.now, n)) }
+    ensures locks { world.new.locks ≡ world.old.locks }
+    ensures outputs { world.new.outputs ≡ world.old.outputs }
+{
+    world.first.clear();
+    world.first.reserve(first.len())?;
+    if first.is_empty() || first.len() >= 4294967295 {
+        return Ok(());
+    }
+    match number(env, count) {
+        Err(_) => Ok(()),
+        Ok(n) => match count_of(n) {
+            Err(_) => Ok(()),
+            Ok(count) => world.heap.room(first.len() as u32, count),
+        },
+    }
+}
+
+// Room for the next event of a thread: the answer is a frame for the function that it calls.
+fn prepare(
+    alloc: Global,
+    code: &[Block],
+    functions: &[Function],
+    frames: &mut Vec<Frame>,
+    world: &mut World,
+) -> Result<Frame, Memory>
+    requires { IsCode code.now functions.now }
+    ensures frames { frames.new.items ≡ frames.old.items }
+    ensures same { shared world.new ≡ shared world.old }
+    ensures room { IfOk result (λ spare. HasRoom code.now (functions_shown code.now functions.now) (Some (record { frames = frames.new })) world.new spare) }
+{
+    world.locks.room()?;
+    world.outputs.reserve(1)?;
+    frames.reserve(1)?;
+    match last_frame(frames.as_slice()) {
+        None => Ok(empty_frame(alloc)),
+        Some(frame) => {
+            block_room(code, frame, world)?;
+            spare_frame(alloc, function_at(functions, callee_at(code, frame.spots.as_slice())))
+        }
     }
 }
