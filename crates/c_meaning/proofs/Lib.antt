@@ -9,3 +9,4 @@ pub mod Held
 pub mod FrameEvents
 pub mod Threads
 pub mod Touched
+pub mod StateEvents

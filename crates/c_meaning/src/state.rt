@@ -1,8 +1,8 @@
-ghost use Rattle.std.specs.Prelude.{◌≡◌, ◌≤◌, ◌<◌, ◌-◌, ◌^◌, ◌++◌, ◌∷◌, [], IsTrue, IfOk, IfSome, IfNone, OnOk, OnErr, Ok, Some, None, length, map, true, slice_get, slice_set, vec_len, vec_capacity};
+ghost use Rattle.std.specs.Prelude.{◌≡◌, ◌≤◌, ◌<◌, ◌-◌, ◌^◌, ◌++◌, ◌∷◌, [], IsTrue, IfOk, IfSome, IfNone, OnOk, OnErr, Ok, Some, None, length, map, true, slice_get, slice_set, suc, vec_len, vec_capacity};
 ghost use Rattle.c_syntax.specs.Plain.{plain_program};
 ghost use Rattle.c_meaning.specs.Steps.{Step, start_of};
 ghost use Rattle.c_meaning.specs.Acts.{shared};
-ghost use Rattle.c_meaning.specs.Events.{next_of, next_by, atomic_at, event_of_frame, is_enabled, lock_ready, child_ready};
+ghost use Rattle.c_meaning.specs.Events.{event_of, next_of, next_by, atomic_at, event_of_frame, is_enabled, lock_ready, child_ready};
 ghost use Rattle.std.specs.Prelude.{ℕ, List};
 ghost use Rattle.c_meaning.specs.Tree as tree;
 ghost use Rattle.c_meaning.specs.Blocks.{IsTable};
@@ -13,7 +13,7 @@ ghost use Rattle.c_meaning.specs.Effects.{eval_number, count_of};
 ghost use Rattle.pl_resource.specs.Faults.{chain};
 ghost use Rattle.pl_resource.specs.Heap.{IsFields};
 ghost use Rattle.c_meaning.specs.declared.code.Block.{Block};
-ghost use Rattle.c_meaning.specs.States.{shown, runs, IsFor, IsLast, frames_at, HasRoom, ThreadAdded};
+ghost use Rattle.c_meaning.specs.States.{shown, runs, IsFor, IsLast, frames_at, HasRoom, ThreadAdded, ThreadsFit, thread_shown};
 
 use crate::action::{Action, Event, Next};
 use crate::code::{Block, Op};
@@ -24,7 +24,7 @@ use crate::touch::{touching, untouched};
 use crate::world::World;
 use c_syntax::CProgram;
 use pl_base::Memory;
-use pl_resource::Value;
+use pl_resource::{Fault, Value};
 use std::alloc::Global;
 use std::marker::Model;
 use std::mem;
@@ -100,18 +100,16 @@ impl CState {
         ensures refused { OnErr result (self.new.ready ≡ None) }
     {
         self.ready = None;
-        let mut frames = take_frames(&mut self.threads, tid as usize, Vec::new(self.alloc));
-        let made = prepare(
+        let (spare, frames) = prepare_thread(
             self.alloc,
             self.blocks.as_slice(),
             self.functions.as_slice(),
-            &mut frames,
+            &mut self.threads,
+            tid as usize,
             &mut self.world,
-        );
-        put_frames(&mut self.threads, tid as usize, frames);
-        self.spare = made?;
-        self.frames = Vec::with_capacity(self.alloc, 1)?;
-        self.threads.reserve(1)?;
+        )?;
+        self.spare = spare;
+        self.frames = frames;
         self.ready = Some(tid);
         Ok(())
     }
@@ -129,24 +127,21 @@ impl CState {
         ensures program { IsFor (plain_program program.now) self.new }
         ensures used { self.new.ready ≡ None }
     {
-        let next = self.threads.len() as u32;
         self.ready = None;
-        let mut frames = take_frames(&mut self.threads, tid as usize, Vec::new(self.alloc));
         let spare = mem::replace(&mut self.spare, empty_frame(self.alloc));
         let first = mem::replace(&mut self.frames, Vec::new(self.alloc));
-        let moved = advance(
+        let Ok(action) = advance_thread(
+            self.alloc,
             self.blocks.as_slice(),
             self.functions.as_slice(),
-            &mut frames,
-            spare,
+            &mut self.threads,
+            tid as usize,
             &mut self.world,
-            next,
-        );
-        put_frames(&mut self.threads, tid as usize, frames);
-        let Ok((action, forked)) = moved else {
+            spare,
+            first,
+        ) else {
             unreachable!();
         };
-        add_thread(&mut self.threads, first, forked);
         Event { tid, action }
     }
 
@@ -357,6 +352,73 @@ fn prepare(
         Some(frame) => {
             block_room(code, frame, world)?;
             spare_frame(alloc, function_at(functions, callee_at(code, frame.spots.as_slice())))
+        }
+    }
+}
+
+// Room for the next event of a thread: the answer is a frame for the function that it calls, and room for the frames of a
+// thread that it starts.
+fn prepare_thread(
+    alloc: Global,
+    code: &[Block],
+    functions: &[Function],
+    threads: &mut Vec<Thread>,
+    t: usize,
+    world: &mut World,
+) -> Result<(Frame, Vec<Frame>), Memory>
+    requires code { IsCode code.now functions.now }
+    requires there { t < length threads.old.items }
+    ensures shown { map (thread_shown code.now) threads.new.items ≡ map (thread_shown code.now) threads.old.items }
+    ensures fits { ThreadsFit code.now threads.old.items → ThreadsFit code.now threads.new.items }
+    ensures len { length threads.new.items ≡ length threads.old.items }
+    ensures world { shared world.new ≡ shared world.old }
+    ensures room { IfOk result (λ r. HasRoom code.now (functions_shown code.now functions.now) (slice_get threads.new.items t) world.new r.0) }
+    ensures thread { IfOk result (λ r. (vec_len threads.new < vec_capacity threads.new) × (r.1.items ≡ []) × (1 ≤ vec_capacity r.1)) }
+{
+    let mut frames = take_frames(threads, t, Vec::new(alloc));
+    let made = prepare(alloc, code, functions, &mut frames, world);
+    put_frames(threads, t, frames);
+    threads.reserve(1)?;
+    match made {
+        Err(memory) => Err(memory),
+        Ok(spare) => Ok((spare, Vec::with_capacity(alloc, 1)?)),
+    }
+}
+
+// The event of a thread.
+fn advance_thread(
+    alloc: Global,
+    code: &[Block],
+    functions: &[Function],
+    threads: &mut Vec<Thread>,
+    t: usize,
+    world: &mut World,
+    spare: Frame,
+    first: Vec<Frame>,
+) -> Result<Action, Fault>
+    requires code { IsCode code.now functions.now }
+    requires fits { ThreadsFit code.now threads.old.items }
+    requires there { t < length threads.old.items }
+    requires few { length threads.old.items < 2 ^ 32 - 1 }
+    requires room { HasRoom code.now (functions_shown code.now functions.now) (slice_get threads.old.items t) world.old spare }
+    requires thread { vec_len threads.old < vec_capacity threads.old }
+    requires empty { first.items ≡ [] }
+    requires place { 1 ≤ vec_capacity first }
+    requires blocks { length world.old.heap.blocks < 2 ^ 32 - 1 }
+    requires locks { length world.old.locks.locks < 2 ^ 32 - 1 }
+    ensures does { IfOk result (λ action. event_of (functions_shown code.now functions.now) (record { world = shared world.old; threads = map (thread_shown code.now) threads.old.items }) t ≡ Some (Ok (action, record { world = shared world.new; threads = map (thread_shown code.now) threads.new.items }))) }
+    ensures faults { OnErr result (is_enabled (functions_shown code.now functions.now) (record { world = shared world.old; threads = map (thread_shown code.now) threads.old.items }) t ≡ true → ⊥) }
+    ensures fits { OnOk result (ThreadsFit code.now threads.new.items) }
+    ensures few { OnOk result (length threads.new.items ≤ suc (length threads.old.items)) }
+{
+    let next = threads.len() as u32;
+    let mut frames = take_frames(threads, t, Vec::new(alloc));
+    match advance(code, functions, &mut frames, spare, world, next) {
+        Err(fault) => Err(fault),
+        Ok((action, forked)) => {
+            put_frames(threads, t, frames);
+            add_thread(threads, first, forked);
+            Ok(action)
         }
     }
 }
