@@ -10,3 +10,5 @@ pub mod FrameEvents
 pub mod Threads
 pub mod Touched
 pub mod StateEvents
+pub mod Loading
+pub mod Counts

@@ -75,7 +75,7 @@ length_append : (T U : List Block) → length T ≤ length (T ++ U)
 length_append [] U = omega arith
 length_append (b ∷ T) U = omega (arith, length_append T U)
 
-longer : (T U : List Block) → Extends T U → length T ≤ length U
+pub longer : (T U : List Block) → Extends T U → length T ≤ length U
 longer T U e = subst (λ z. length T ≤ length z) (sym e.is) (length_append T e.more)
 
 stmts_snoc : (t : ℕ → Stmts) (os : List Op) (o : Op) (rest : Stmts) → both (stmts_of t (os ++ o ∷ [])) rest ≡ both (stmts_of t os) (more (stmt_of t o) rest)

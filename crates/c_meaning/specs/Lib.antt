@@ -14,3 +14,4 @@ pub mod Events
 pub mod Steps
 pub mod Machine
 pub mod States
+pub mod Loads

@@ -6,6 +6,7 @@ mod action;
 mod code;
 mod eval;
 mod frame;
+mod load;
 mod locks;
 mod resolve;
 mod state;

@@ -2,7 +2,7 @@ ghost use Rattle.std.specs.Prelude.{◌≡◌, ◌≤◌, ◌<◌, ◌-◌, ◌^
 ghost use Rattle.c_syntax.specs.Plain.{plain_program};
 ghost use Rattle.c_meaning.specs.Steps.{Step, start_of};
 ghost use Rattle.c_meaning.specs.Acts.{shared};
-ghost use Rattle.c_meaning.specs.Events.{event_of, next_of, next_by, atomic_at, event_of_frame, is_enabled, lock_ready, child_ready};
+ghost use Rattle.c_meaning.specs.Events.{begun, blank, function_numbered, event_of, next_of, next_by, atomic_at, event_of_frame, is_enabled, lock_ready, child_ready};
 ghost use Rattle.std.specs.Prelude.{ℕ, List};
 ghost use Rattle.c_meaning.specs.Tree as tree;
 ghost use Rattle.c_meaning.specs.Blocks.{IsTable};
@@ -18,13 +18,16 @@ ghost use Rattle.c_meaning.specs.States.{shown, runs, IsFor, IsLast, frames_at, 
 use crate::action::{Action, Event, Next};
 use crate::code::{Block, Op};
 use crate::act::{count_of, number};
+use crate::load::load;
+use crate::locks::Locks;
+use crate::resolve::function_place;
 use crate::term::{Basic, Term};
-use crate::thread::{Frame, Function, advance, callee_at, current, function_at, stuck};
+use crate::thread::{Frame, Function, advance, begin, callee_at, current, function_at, stuck};
 use crate::touch::{touching, untouched};
 use crate::world::World;
 use c_syntax::CProgram;
-use pl_base::Memory;
-use pl_resource::{Fault, Value};
+use pl_base::{Memory, Name};
+use pl_resource::{Fault, Heap, Value};
 use std::alloc::Global;
 use std::marker::Model;
 use std::mem;
@@ -76,6 +79,29 @@ impl Model for CState {
 }
 
 impl CState {
+    /// The state before the first event: one thread, in `main`.
+    pub fn start(alloc: Global, program: &CProgram, input: &[i64]) -> Result<CState, Memory>
+        ensures state { IfOk result (λ c. shown c ≡ start_of (plain_program program.now) input.now) }
+        ensures program { IfOk result (λ c. IsFor (plain_program program.now) c) }
+        ensures room { IfOk result (λ c. c.ready ≡ None) }
+    {
+        let mut blocks = Vec::new(alloc);
+        let functions = load(alloc, program, &mut blocks)?;
+        let name = Name::of(alloc, "main")?;
+        let main = function_place(program.funs.as_slice(), &name)?;
+        let threads = first_thread(alloc, blocks.as_slice(), functions.as_slice(), main)?;
+        Ok(CState {
+            alloc,
+            blocks,
+            functions,
+            threads,
+            world: first_world(alloc, input)?,
+            ready: None,
+            spare: empty_frame(alloc),
+            frames: Vec::new(alloc),
+        })
+    }
+
     /// How many threads were made.
     pub fn threads(&self) -> u32
         ensures { result ≡ length (shown self.now).threads }
@@ -126,6 +152,9 @@ impl CState {
         ensures event { Step (plain_program program.now) (shown self.old) tid result (shown self.new) }
         ensures program { IsFor (plain_program program.now) self.new }
         ensures used { self.new.ready ≡ None }
+        ensures blocks { length (shown self.new).world.blocks ≤ suc (length (shown self.old).world.blocks) }
+        ensures locks { length (shown self.new).world.locks ≤ suc (length (shown self.old).world.locks) }
+        ensures threads { length (shown self.new).threads ≤ suc (length (shown self.old).threads) }
     {
         self.ready = None;
         let spare = mem::replace(&mut self.spare, empty_frame(self.alloc));
@@ -210,6 +239,37 @@ fn next_of_frame(code: &[Block], frame: &Frame, world: &World) -> Next
         Some((_, Op::Let(_, e))) => Next::Fault(stuck(e, env)),
         Some((_, Op::If(e, _, _))) => Next::Fault(stuck(e, env)),
     }
+}
+
+fn first_world(alloc: Global, input: &[i64]) -> Result<World, Memory>
+    ensures { IfOk result (λ w. shared w ≡ record { blocks = []; locks = []; input = input.now; outputs = [] }) }
+{
+    let mut numbers = Vec::new(alloc);
+    numbers.extend_from_slice(input)?;
+    Ok(World {
+        heap: Heap::new(alloc),
+        locks: Locks::new(alloc),
+        input: numbers,
+        at: 0,
+        outputs: Vec::new(alloc),
+        first: Vec::new(alloc),
+    })
+}
+
+// The thread that runs `main`.
+fn first_thread(alloc: Global, code: &[Block], functions: &[Function], main: u32) -> Result<Vec<Thread>, Memory>
+    requires { IsCode code.now functions.now }
+    ensures shown { IfOk result (λ ts. map (thread_shown code.now) ts.items ≡ (begun (function_numbered (functions_shown code.now functions.now) (Some main)) (blank (function_numbered (functions_shown code.now functions.now) (Some main))) None ∷ []) ∷ []) }
+    ensures fits { IfOk result (λ ts. ThreadsFit code.now ts.items) }
+    ensures one { IfOk result (λ ts. length ts.items ≡ 1) }
+{
+    let function = function_at(functions, Some(main));
+    let spare = spare_frame(alloc, function)?;
+    let mut frames = Vec::with_capacity(alloc, 1)?;
+    let mut threads = Vec::with_capacity(alloc, 1)?;
+    frames.push_reserved(begin(code, function, spare, None));
+    threads.push_reserved(Thread { frames });
+    Ok(threads)
 }
 
 fn empty_frame(alloc: Global) -> Frame {

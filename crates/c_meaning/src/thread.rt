@@ -198,7 +198,7 @@ fn enter(code: &[Block], function: Option<Function>, spots: Vec<Spot>) -> Vec<Sp
 }
 
 // A function's frame, with its arguments in its locals.
-fn begin(code: &[Block], function: Option<Function>, spare: Frame, into: Option<u32>) -> Frame
+pub(crate) fn begin(code: &[Block], function: Option<Function>, spare: Frame, into: Option<u32>) -> Frame
     requires table { IsTable code.now }
     requires empty { spare.spots.items ≡ [] }
     requires places { suc (nest (shown_or_none code.now function).body) ≤ vec_capacity spare.spots }
