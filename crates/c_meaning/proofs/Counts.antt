@@ -175,8 +175,8 @@ fork_few f (Forks l) = omega arith
 fork_few f (Returns r) = omega arith
 
 length_both : {A : Type 0} (xs ys : List A) → length (xs ++ ys) ≡ length xs + length ys
-length_both [] ys = refl
-length_both (x ∷ xs) ys = ap suc (length_both xs ys)
+length_both [] ys = omega arith
+length_both (x ∷ xs) ys = omega (arith, length_both xs ys)
 
 abbrev FewIn : State → Option (Result (Action × State) Fault) → Type 0
 FewIn s None = ⊤

@@ -17,3 +17,4 @@ mod world;
 
 pub use action::{Action, Event, History, Next, Touch};
 pub use state::CState;
+

@@ -470,6 +470,8 @@ fn advance_thread(
     ensures faults { OnErr result (is_enabled (functions_shown code.now functions.now) (record { world = shared world.old; threads = map (thread_shown code.now) threads.old.items }) t ≡ true → ⊥) }
     ensures fits { OnOk result (ThreadsFit code.now threads.new.items) }
     ensures few { OnOk result (length threads.new.items ≤ suc (length threads.old.items)) }
+    ensures blocks { OnOk result (length world.new.heap.blocks ≤ suc (length world.old.heap.blocks)) }
+    ensures locks { OnOk result (length world.new.locks.locks ≤ suc (length world.old.locks.locks)) }
 {
     let next = threads.len() as u32;
     let mut frames = take_frames(threads, t, Vec::new(alloc));

@@ -4,6 +4,7 @@ use Rattle.c_meaning.specs.Machine.{AllFit, functions_shown, frames_shown, moved
 use Rattle.c_meaning.specs.Events.{State, Thread}
 use Rattle.c_meaning.specs.States.{thread_shown, ThreadsFit, HasRoom, frames_at}
 use Rattle.c_meaning.proofs.StateEvents.{put_back, get_shown, set_shown, fit_get, fit_set, fit_added, shown_added, length_map, moved_event, moved_enabled}
+use Rattle.c_meaning.proofs.Counts.{few_of}
 use Rattle.c_meaning.proofs.state.advance_thread.Goals as goal
 
 pub advance-requires-clause-fits : goal.advance-requires-clause-fits
@@ -36,3 +37,9 @@ returns-in-Ok-clause-fits c =
     let T = c.args.code.now in
     let back = put_back c.args.threads.now.items c.take_frames-frames.new.threads.items c.put_frames.new.threads.items c.args.t _ (record { frames = c.advance.new.frames }) c.take_frames-frames.ensures.rest c.put_frames.ensures.items in
     fit_added T c.put_frames.new.threads.items c.add_thread.new.threads.items c.in-Ok.forked c.add_thread.ensures (subst (ThreadsFit T) (sym back) (fit_set T c.args.threads.now.items c.args.t (record { frames = c.advance.new.frames }) c.requires.fits c.in-Ok.ensures.fits)) c.in-Ok.ensures.fork
+
+pub returns-in-Ok-clause-blocks : goal.returns-in-Ok-clause-blocks
+returns-in-Ok-clause-blocks c = (few_of (functions_shown c.args.code.now c.args.functions.now) (record { world = shared c.args.world.now; threads = map (thread_shown c.args.code.now) c.args.threads.now.items }) c.args.t c.in-Ok.action (record { world = shared c.advance.new.world; threads = map (thread_shown c.args.code.now) c.add_thread.new.threads.items }) (returns-in-Ok-clause-does c)).0.0
+
+pub returns-in-Ok-clause-locks : goal.returns-in-Ok-clause-locks
+returns-in-Ok-clause-locks c = (few_of (functions_shown c.args.code.now c.args.functions.now) (record { world = shared c.args.world.now; threads = map (thread_shown c.args.code.now) c.args.threads.now.items }) c.args.t c.in-Ok.action (record { world = shared c.advance.new.world; threads = map (thread_shown c.args.code.now) c.add_thread.new.threads.items }) (returns-in-Ok-clause-does c)).0.1
