@@ -11,6 +11,7 @@ use Rattle.c_syntax.specs.declared.program.CFun as fun
 use Rattle.c_syntax.specs.declared.program.CProgram as program
 use Rattle.c_syntax.specs.Tree as t
 
+-- an expression
 abbrev pub plain_expr : expr.CExpr → t.Expr
 plain_expr (Int n) = t.Int n
 plain_expr (Truth b) = t.Truth b
@@ -20,11 +21,13 @@ plain_expr (Neg' q e) = t.Neg (plain_expr e)
 plain_expr (Not' q e) = t.Not (plain_expr e)
 plain_expr (Bin' op q a r b) = t.Bin op (plain_expr a) (plain_expr b)
 
+-- a cell
 abbrev pub plain_cell : cell.CCell → t.Cell
 plain_cell (Whole base) = t.Whole base
 plain_cell (At base index) = t.At base (plain_expr index)
 plain_cell (Field base member) = t.Field base member
 
+-- a first value
 abbrev pub plain_init : init.CInit → t.Init
 plain_init i = record { name = i.name; value = plain_expr i.value }
 
@@ -58,14 +61,18 @@ stmt_step (CStmt-F.If e first second) = t.If (plain_expr e) (chain first) (chain
 stmt_step (CStmt-F.While loads e body) = t.While (chain loads) (plain_expr e) (chain body)
 stmt_step (CStmt-F.Return e) = t.Return (plain_expr e)
 
+-- a statement
 abbrev pub plain_stmt : CStmt → t.Stmt
 plain_stmt = fold-CStmt t.Stmt stmt_step
 
+-- a list of statements
 abbrev pub plain_stmts : List CStmt → t.Stmts
 plain_stmts list = chain (map plain_stmt list)
 
+-- a function
 abbrev pub plain_fun : fun.CFun → t.Fun
 plain_fun f = record { name = f.name; result = f.result; params = f.params; body = plain_stmts f.body }
 
+-- a program
 abbrev pub plain_program : program.CProgram → t.Program
 plain_program p = record { structs = p.structs; funs = map plain_fun p.funs }

@@ -5,6 +5,7 @@ use Rattle.std.specs.Prelude.{ℕ, List, [], ◌∷◌, ◌++◌, codes, flat_ma
 abbrev pub lines_text : List (List ℕ) → List ℕ
 lines_text lines = flat_map (λ line. line ++ codes "\n") lines
 
+-- the prelude
 unfoldable pub prelude : List ℕ
 prelude = lines_text (
     codes "#include <inttypes.h>" ∷

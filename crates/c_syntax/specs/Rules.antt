@@ -174,6 +174,7 @@ abbrev mutual
   binders (t.While loads e body) = stmts_binders loads + stmts_binders body
   binders s = length (bound_by s)
 
+  -- how many locals statements bind
   pub stmts_binders : Stmts → ℕ
   stmts_binders t.end = 0
   stmts_binders (t.more s rest) = binders s + stmts_binders rest
@@ -182,6 +183,7 @@ abbrev mutual
 abbrev pub after : Scope → Stmt → Scope
 after scope s = record { bound = bound_by s ++ scope.bound; next = scope.next + binders s }
 
+-- what is bound behind statements
 abbrev pub after_all : Scope → Stmts → Scope
 after_all scope t.end = scope
 after_all scope (t.more s rest) = after_all (after scope s) rest
@@ -233,21 +235,22 @@ BodyFits p result scope (t.more s rest) = AreNumbered scope.next (bound_by s) ×
 
 -- ---- programs
 
+-- the members of a structure have names of their own and are values
 abbrev pub StructFits : Program → CStruct → Type 0
 StructFits p s = IsDistinct bytes_eq (map (λ m. m.name) s.members) × AllByRecursion (λ m. IsValueType p.structs m.kind) s.members
 
--- parameters are numbered from 1
+-- the parameters of a function have names of their own, are numbered from 1 and are values, and its statements keep the rules
 pub record FunFits (p : Program) (f : Fun) : Type 0 where
   pub names : IsDistinct bytes_eq (map (λ q. q.local.name) f.params)
   pub numbers : AreNumbered 1 f.params
   pub types : AllByRecursion (λ q. IsValueType p.structs q.kind) f.params
   pub body : BodyFits p f.result (record { bound = f.params; next = 1 + length f.params }) f.body
 
--- a program begins with a function `main` without parameters and result
+-- a program begins with a function `main` that has no parameters and no result
 abbrev pub HasMain : Program → Type 0
 HasMain p = (f : Fun) × (function_of p.funs (codes "main") ≡ Some f) × (f.params ≡ []) × (f.result ≡ kind.Void)
 
--- structures and functions share one set of names
+-- a program keeps the rules; structures and functions share one set of names
 pub record KeepsRules (p : Program) : Type 0 where
   pub names : IsDistinct bytes_eq (map (λ s. s.name) p.structs ++ map (λ f. f.name) p.funs)
   pub structs : AllByRecursion (StructFits p) p.structs

@@ -10,6 +10,7 @@ use Rattle.c_syntax.specs.declared.program.CStruct.{CStruct}
 abbrev pub Name : Type 0
 Name = List ℕ
 
+-- an expression
 pub data Expr : Type 0 where
   Int : (n : ℤ) → Expr
   Truth : (b : Bool) → Expr
@@ -61,12 +62,14 @@ mutual
     end : Stmts
     more : (s : Stmt) (rest : Stmts) → Stmts
 
+-- a function
 pub record Fun : Type 0 where
   pub name : Name
   pub result : CType
   pub params : List CParam
   pub body : Stmts
 
+-- a program
 pub record Program : Type 0 where
   pub structs : List CStruct
   pub funs : List Fun

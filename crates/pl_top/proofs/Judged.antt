@@ -1,5 +1,5 @@
 -- From the walk's answer to the status and the line.
-use Rattle.std.proofs.Common.{◌≡◌, ℕ, zero, List, [], ◌∷◌, Some, slice_get, refl, sym, ap, ◌∙◌, subst, subst₂}
+use Rattle.std.proofs.Common.{◌≡◌, ℕ, List, [], ◌∷◌, Some, slice_get, sym, ap, ◌∙◌, subst, subst₂}
 use Rattle.std.specs.Prelude.{Result, Ok, Err, IfOk}
 use Rattle.pl_base.specs.declared.pos.Pos.{Pos}
 use Rattle.pl_syntax.specs.Tree.{Fun, Decl, Function, Program}
@@ -10,7 +10,7 @@ use Rattle.pl_walk.proofs.GoodLaws.{good}
 use Rattle.pl_walk.proofs.WalkLaws.{all_done_derives}
 use Rattle.pl_top.specs.Lines.{accepted, not_built, duty_line}
 use Rattle.pl_top.specs.Grammar.{IsFile}
-use Rattle.pl_top.specs.Judging.{IsFileOf, JudgesMain, all_done, one_undone, JudgesBytes, is_accepted, is_undone, is_not_built}
+use Rattle.pl_top.specs.Judging.{program_of, IsFileOf, JudgesMain, all_done, one_undone, JudgesBytes, is_accepted, is_undone, is_not_built}
 
 -- what follows of each Ok follows of this one
 pub if_ok_from : {T E : Type 0} (r : Result T E) (P Q : T → Type 0) → ((x : T) → P x → Q x) → IfOk r P → IfOk r Q
@@ -28,17 +28,18 @@ pub main_undone : (main : Fun) (place : Pos) (duty : Duty) → Undone main place
 main_undone main place duty undone text h = subst (JudgesMain main 1) (sym h) (one_undone place duty undone)
 
 -- the program of a typed file is its one function
-pub program_is : (p : Program) (main : Fun) → p.decls ≡ Function main ∷ [] → p ≡ record { decls = Function main ∷ [] }
+pub program_is : (p : Program) (main : Fun) → p.decls ≡ Function main ∷ [] → p ≡ program_of main
 program_is p main e = let made : List Decl → Program = λ l. record { decls = l } in ap made e
 
 by_main : (bytes : List ℕ) (main : Fun) → IsFileOf bytes main → (status : ℕ) (text : List ℕ) → JudgesMain main status text → JudgesBytes bytes status text
 by_main bytes main file _ _ (all_done done holds) = is_accepted record { main = main; file = file; done = done; good = holds }
 by_main bytes main file _ _ (one_undone place duty undone) = is_undone place duty record { main = main; file = file; undone = undone }
 
-pub file_judged : (bytes : List ℕ) (p : Program) → IsFile bytes p → (status : ℕ) (text : List ℕ) → ((main : Fun) → p.decls ≡ Function main ∷ [] → IsMain main → JudgesMain main status text) → JudgesBytes bytes status text
-file_judged bytes p file status text h =
+pub file_judged : (bytes : List ℕ) (p : Program) → IsFile bytes p → ((q : Program) → IsFile bytes q → q ≡ p) → (status : ℕ) (text : List ℕ) → ((main : Fun) → p.decls ≡ Function main ∷ [] → IsMain main → JudgesMain main status text) → JudgesBytes bytes status text
+file_judged bytes p file only status text h =
     let t : IsTyped p = file.typed in
-    by_main bytes t.0 (subst (IsFile bytes) (program_is p t.0 t.1) file) status text (h t.0 t.1 t.2)
+    let is = program_is p t.0 t.1 in
+    by_main bytes t.0 record { file = subst (IsFile bytes) is file; only = λ q f. only q f ∙ is } status text (h t.0 t.1 t.2)
 
 pub none_judged : (bytes : List ℕ) → ((p : Program) → IsFile bytes p → ⊥) → (status : ℕ) (text : List ℕ) → (status ≡ 3) × (text ≡ not_built) → JudgesBytes bytes status text
 none_judged bytes none status text h = subst₂ (JudgesBytes bytes) (sym h.0) (sym h.1) (is_not_built record { none = none })

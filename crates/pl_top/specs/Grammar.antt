@@ -1,10 +1,10 @@
 -- The small grammar: one function `main` of lets, prints and frees.
-use Rattle.std.specs.Prelude.{◌≡◌, ℕ, ℤ, pos, negsuc, zero, suc, Bool, true, false, List, [], ◌∷◌, ◌++◌}
+use Rattle.std.specs.Prelude.{◌≡◌, ℕ, ℤ, pos, negsuc, zero, suc, false, List, [], ◌∷◌, ◌++◌}
 use Rattle.std.specs.List.{list_any}
 use Rattle.std.specs.Str.{bytes_eq}
 use lib.Chars.{codes}
 use Rattle.pl_base.specs.declared.pos.Pos.{Pos}
-use Rattle.pl_syntax.specs.Tree.{Name, Expr, Int, Var, CellExpr, Whole, Stmt, Load, Alloc, Free, Print, Block, Fun, Decl, Function, Program}
+use Rattle.pl_syntax.specs.Tree.{Name, Expr, Int, Var, Whole, Stmt, Load, Alloc, Free, Print, Function, Program}
 use Rattle.pl_syntax.specs.Sorts.{IsTyped}
 use Rattle.pl_top.specs.declared.token.Token.{Token}
 use Rattle.pl_top.specs.declared.token.Kind.TheVariants.{Word, Number, Sign}

@@ -1,5 +1,5 @@
 -- What is answered to `check`, where nothing outside fails and memory is enough.
-use Rattle.std.specs.Prelude.{◌≡◌, ◌⊎◌, ◌≤◌, ℕ, List, [], ◌∷◌, length}
+use Rattle.std.specs.Prelude.{◌≡◌, ℕ, List, [], ◌∷◌}
 use Rattle.pl_base.specs.declared.pos.Pos.{Pos}
 use Rattle.pl_syntax.specs.Tree.{Fun, Function, Program}
 use Rattle.pl_walk.specs.declared.walk.Duty.{Duty}
@@ -9,9 +9,14 @@ use Rattle.pl_top.specs.Grammar.{IsFile}
 use Rattle.pl_top.specs.Telling.{Given, whole, long}
 use Rattle.pl_top.specs.Lines.{accepted, not_built, limit_file, duty_line}
 
--- the bytes are a file of the small grammar, with this function
-abbrev pub IsFileOf : List ℕ → Fun → Type 0
-IsFileOf bytes main = IsFile bytes (record { decls = Function main ∷ [] })
+-- the program of one function
+abbrev pub program_of : Fun → Program
+program_of main = record { decls = Function main ∷ [] }
+
+-- the bytes are a file of the small grammar, with this function and no other
+pub record IsFileOf (bytes : List ℕ) (main : Fun) : Type 0 where
+  pub file : IsFile bytes (program_of main)
+  pub only : (program : Program) → IsFile bytes program → program ≡ program_of main
 
 -- no duty of the file is left undone, and then the program is good: no run of it faults or races
 pub record IsAccepted (bytes : List ℕ) : Type 0 where

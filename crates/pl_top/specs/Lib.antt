@@ -6,3 +6,6 @@ pub mod Lines
 pub mod Reading
 pub mod Judging
 pub mod Calls
+pub mod Leads
+pub mod Forms
+pub mod Scopes

@@ -1,7 +1,6 @@
 -- How bytes spell the tokens of the small grammar: the longest token is taken, with blanks between tokens.
-use Rattle.std.specs.Prelude.{◌≡◌, ℕ, ◌+◌, ◌*◌, ◌-◌, ◌^◌, ◌≤◌, ◌==◌, ◌&&◌, ◌||◌, nat_le, Bool, true, false, not, List, [], ◌∷◌, ◌++◌, if◌then◌else◌}
+use Rattle.std.specs.Prelude.{◌≡◌, ℕ, ◌+◌, ◌*◌, ◌-◌, ◌^◌, ◌≤◌, ◌==◌, ◌&&◌, ◌||◌, nat_le, Bool, true, false, List, [], ◌∷◌, ◌++◌, if◌then◌else◌}
 use Rattle.std.specs.List.{list_all}
-use lib.Chars.{codes}
 use Rattle.pl_base.specs.declared.pos.Pos.{Pos}
 use Rattle.pl_top.specs.declared.token.Token.{Token}
 use Rattle.pl_top.specs.declared.token.Kind.{Kind}

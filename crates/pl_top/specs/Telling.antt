@@ -1,5 +1,5 @@
 -- What a call of the program took and wrote, and the causes of its statuses.
-use Rattle.std.specs.Prelude.{◌≡◌, ℕ, ◌<◌, ◌≤◌, List, length, take, Bool, true, false, Some, None, Ok, Err, Option, Result}
+use Rattle.std.specs.Prelude.{◌≡◌, ℕ, ◌<◌, ◌≤◌, List, length, take, Bool, true, false, Ok, Err, Option, Result}
 use Rattle.std.specs.Io.KnownBytes.{Appends}
 use Rattle.pl_base.specs.Outside.{Files, HasFile, HasLonger, Rose}
 use Rattle.pl_top.specs.declared.fetch.Fetched.{Fetched}

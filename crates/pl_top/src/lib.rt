@@ -3,8 +3,11 @@
 
 mod fetch;
 mod judge;
+mod lexing;
 mod lines;
+mod parsing;
 mod reading;
+mod sorting;
 mod token;
 mod top;
 mod words;
@@ -13,5 +16,7 @@ pub use token::{Kind, Token};
 pub use top::{check_command, pulse_main};
 pub use words::{Command, Usage, UsageKind, WordError, read_words};
 
+#[cfg(test)]
+mod reading_tests;
 #[cfg(test)]
 mod tests;

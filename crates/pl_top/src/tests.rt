@@ -7,7 +7,8 @@ use std::alloc::{AllocError, Global};
 use std::process::Abort;
 use std::test::*;
 
-const FIRST: &[u8] = b"fn main() {\n  let r = alloc(5);\n  let v = !r;\n  print(v);\n  free(r);\n}\n";
+const FIRST: &[u8] =
+    b"fn main() {\n  let r = alloc(5);\n  let v = !r;\n  print(v);\n  free(r);\n}\n";
 
 fn check_words(alloc: Global) -> Result<Vec<String>, AllocError> {
     let mut words = Vec::new(alloc);
@@ -45,7 +46,10 @@ fn a_file_is_checked(rt: HostRuntime) -> Result<(), Fail> {
         (b"".as_slice(), 3, "not built\n"),
     ] {
         let mut host = SteadyHost::new(alloc, one_file(alloc, bytes)?, Vec::new(alloc));
-        assert_eq!(rt; pulse_main(&rt, alloc, words.as_slice(), &mut host, &NullGate), status);
+        assert_eq!(rt;
+            pulse_main(&rt, alloc, words.as_slice(), &mut host, &NullGate),
+            status
+        );
         assert_eq!(rt; host.out(), line.as_bytes());
     }
     Ok(())
@@ -59,7 +63,10 @@ fn each_call_fails_once(rt: HostRuntime) -> Result<(), Fail> {
         let mut fails = Vec::new(alloc);
         fails.push(k)?;
         let mut host = MemoryHost::new(alloc, one_file(alloc, FIRST)?, Vec::new(alloc), fails);
-        assert_eq!(rt; pulse_main(&rt, alloc, words.as_slice(), &mut host, &NullGate), status);
+        assert_eq!(rt;
+            pulse_main(&rt, alloc, words.as_slice(), &mut host, &NullGate),
+            status
+        );
         assert_eq!(rt; host.out().is_empty(), status != 0);
     }
     Ok(())

@@ -5,7 +5,7 @@ ghost use Rattle.pl_base.specs.Outside.{Counts};
 ghost use Rattle.pl_top.specs.Telling.{HasCauses, is_in, is_out};
 ghost use Rattle.pl_top.specs.Words.{command_of, asked_of};
 ghost use Rattle.pl_top.specs.Lines.{usage_line};
-ghost use Rattle.pl_top.specs.Calls.{Answered, WrotePart, IsLineOf, Promised};
+ghost use Rattle.pl_top.specs.Calls.{Answered, WrotePart, IsLineOf, Promised, IsExactFor};
 
 use crate::fetch::{Fault, take_file, write_text};
 use crate::judge::judge;
@@ -46,6 +46,7 @@ pub fn check_command<R: Threads + Sync, H: Host, G: Gate>(
     _gate: &G,
 ) -> Result<u8, Memory>
     ensures answered { IfOk result (λ s. s ≢ 4 → s ≢ 5 → Answered (asked_of command.now) (H.files host.old) (H.out host.old) (H.out host.new) s) }
+    ensures exact { IfOk result (λ s. s ≢ 4 → s ≢ 5 → IsExactFor (Ok (asked_of command.now)) (H.files host.old) s) }
     ensures part { WrotePart (IsLineOf (Ok (asked_of command.now)) (H.files host.old)) (H.out host.old) (H.out host.new) }
     ensures kept { H.files host.new ≡ H.files host.old }
     ensures causes { IfOk result (λ s. HasCauses s (H.in_faults host.old) (H.in_faults host.new) (H.out_faults host.old) (H.out_faults host.new)) }
@@ -97,6 +98,7 @@ pub fn pulse_main<R: Threads + Wait + Sync, H: Host, G: Gate>(
     gate: &G,
 ) -> u8
     ensures answered { result ≢ 4 → result ≢ 5 → result ≢ 6 → Promised (command_of (map string_bytes words.now)) (H.files host.old) (H.out host.old) (H.out host.new) result }
+    ensures exact { result ≢ 4 → result ≢ 5 → result ≢ 6 → IsExactFor (command_of (map string_bytes words.now)) (H.files host.old) result }
     ensures part { WrotePart (IsLineOf (command_of (map string_bytes words.now)) (H.files host.old)) (H.out host.old) (H.out host.new) }
     ensures kept { H.files host.new ≡ H.files host.old }
     ensures causes { HasCauses result (H.in_faults host.old) (H.in_faults host.new) (H.out_faults host.old) (H.out_faults host.new) }

@@ -12,6 +12,7 @@ use std::process::ExitCode;
 
 // The statuses where the words are no text, and where memory is wanted.
 const USAGE: u8 = 2;
+
 const MEMORY: u8 = 6;
 
 fn main(rt: HostRuntime) -> ExitCode {

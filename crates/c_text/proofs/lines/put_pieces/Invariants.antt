@@ -1,0 +1,8 @@
+use Rattle.std.proofs.Common.{◌≡◌, ◌++◌, map, drop}
+use Rattle.c_syntax.specs.Text.{joined}
+use Rattle.c_text.specs.Pieces.{piece_text}
+use Rattle.c_text.proofs.lines.put_pieces.Given as goal
+
+abbrev pub invariant-loop-piece : goal.invariant-loop-piece
+invariant-loop-piece l =
+    l.out.items ++ joined (map piece_text (drop l.piece-index l.pieces)) l.last ≡ l.initial.out.items ++ joined (map piece_text l.pieces) l.last

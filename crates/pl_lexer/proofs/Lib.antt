@@ -1,0 +1,9 @@
+pub mod Apart
+pub mod Cuts
+pub mod Longest
+pub mod Meanings
+pub mod Numbers
+pub mod Once
+pub mod Pieces
+pub mod Symbols
+pub mod Turns

@@ -1,0 +1,6 @@
+pub mod Answers
+pub mod Lexemes
+pub mod Printing
+pub mod Proper
+pub mod Scan
+pub mod Tokens

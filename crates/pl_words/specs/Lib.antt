@@ -1,0 +1,5 @@
+pub mod Table
+pub mod Numbers
+pub mod Words
+pub mod Ranges
+pub mod Steps
