@@ -12,3 +12,4 @@ pub mod Touched
 pub mod StateEvents
 pub mod Loading
 pub mod Counts
+pub mod Crossing
