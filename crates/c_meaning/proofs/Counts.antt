@@ -1,5 +1,5 @@
 -- An event makes at most one block, one lock and one thread.
-use Rattle.std.proofs.Common.{◌≡◌, ℕ, ℤ, zero, suc, ◌+◌, ◌≤◌, ◌<◌, arith, List, [], ◌∷◌, ◌++◌, true, false, Bool, Some, None, Option, Result, Ok, Err, refl, sym, ap, ◌∙◌, length, map, slice_get, slice_set, subst, if◌then◌else◌}
+use Rattle.std.proofs.Common.{◌≡◌, ℕ, ℤ, suc, ◌+◌, ◌≤◌, arith, List, [], ◌∷◌, ◌++◌, true, false, Bool, Some, None, Option, Result, Ok, Err, refl, ap, length, slice_set, subst, if◌then◌else◌}
 use Rattle.std.specs.Prelude.{⊤}
 use Rattle.pl_resource.specs.Faults.{chain}
 use Rattle.pl_resource.specs.Heap.{Block, Blocks, made, block_of, store_in, cas_in, load_of, store_of, cas_of, free_of}
@@ -14,9 +14,9 @@ use Rattle.pl_resource.specs.declared.value.Value.{Value}
 use Rattle.pl_resource.specs.declared.value.Value.TheVariants as value
 use Rattle.c_meaning.specs.declared.action.Action.{Action}
 use Rattle.c_meaning.specs.declared.action.Action.TheVariants as act
-use Rattle.c_meaning.specs.Tree.{Term, Basic, Load, Store, Cas, Make, Free, NewLock, Acquire, Release, Read, Print, Call, Fork, Join, Return, Stmts, Let, If, While, Check, Do, end, more, Function}
+use Rattle.c_meaning.specs.Tree.{Basic, Load, Store, Cas, Make, Free, NewLock, Acquire, Release, Read, Print, Call, Fork, Join, Return, Stmts, Let, If, While, Check, Do, end, more, Function}
 use Rattle.c_meaning.specs.Values.{Env, Outcome, local_of, eval, eval_onto, arguments}
-use Rattle.c_meaning.specs.Effects.{World, Own, Effect, Turn, Past, Calls, Forks, Returns, offset_of, base_of, cell_at, eval_number, count_of, has_fields, past, binding, with_blocks, with_locks, made_block, lock_of_local, freed, joined, next_number, effect_of}
+use Rattle.c_meaning.specs.Effects.{World, Own, Effect, Turn, Past, Calls, Forks, Returns, offset_of, base_of, cell_at, eval_number, count_of, has_fields, past, binding, with_blocks, with_locks, made_block, lock_of_local, freed, joined, effect_of}
 use Rattle.c_meaning.specs.Events.{State, Thread, Frame, Done, faulted, event_in, event_of_frame, event_from, event_of, state_after, thread_of, forked, called, frames_after, frame_behind, blank, own_of}
 use Rattle.c_meaning.proofs.StateEvents.{length_set}
 
@@ -66,6 +66,7 @@ store_len bs cell a v = by_block (block_of bs cell.block)
     by_after : (r : Result Block Fault) → LenOf (length bs) (chain r (λ after. Ok (slice_set bs cell.block (Some after))))
     by_after (Err f) = tt
     by_after (Ok after) = length_set bs cell.block (Some after)
+
     by_block : (r : Result Block Fault) → LenOf (length bs) (chain r (λ block. chain (store_in block cell a v) (λ after. Ok (slice_set bs cell.block (Some after)))))
     by_block (Err f) = tt
     by_block (Ok block) = by_after (store_in block cell a v)
@@ -79,6 +80,7 @@ cas_len bs cell old new = by_block (block_of bs cell.block)
     by_after : (r : Result (ℤ × Bool × Block) Fault) → SwapLen (length bs) (chain r (swapped bs cell))
     by_after (Err f) = tt
     by_after (Ok swap) = length_set bs cell.block (Some swap.2)
+
     by_block : (r : Result Block Fault) → SwapLen (length bs) (chain r (λ block. chain (cas_in block cell old new) (swapped bs cell)))
     by_block (Err f) = tt
     by_block (Ok block) = by_after (cas_in block cell old new)
@@ -96,6 +98,7 @@ set_len ls k held = by_lock (usable ls k)
     by_mark : (lock : Lock) (r : Result Mark Fault) → LenOf (length ls) (chain r (λ mark. Ok (marked ls k lock mark)))
     by_mark lock (Err f) = tt
     by_mark lock (Ok m) = length_set ls k (record lock { mark = m })
+
     by_lock : (r : Result Lock Fault) → LenOf (length ls) (chain r (λ lock. chain (mark_after held lock.mark) (λ mark. Ok (marked ls k lock mark))))
     by_lock (Err f) = tt
     by_lock (Ok lock) = by_mark lock (mark_after held lock.mark)
@@ -106,6 +109,7 @@ end_len ls k = by_lock (usable ls k)
     by_free : (lock : Lock) (b : Bool) → LenOf (length ls) (if b then Err fault.LockFree else Ok (marked ls k lock mark.Ended))
     by_free lock true = tt
     by_free lock false = length_set ls k (record lock { mark = mark.Ended })
+
     by_lock : (r : Result Lock Fault) → LenOf (length ls) (chain r (λ lock. if is_free lock.mark then Err fault.LockFree else Ok (marked ls k lock mark.Ended)))
     by_lock (Err f) = tt
     by_lock (Ok lock) = by_free lock (is_free lock.mark)

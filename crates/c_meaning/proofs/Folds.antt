@@ -1,5 +1,5 @@
 -- The statements of a list of C, one at a time.
-use Rattle.std.proofs.Common.{◌≡◌, ℕ, List, ◌∷◌, ◌+◌, ◌<◌, suc, length, drop, map, sym, ap, ◌∙◌, refl}
+use Rattle.std.proofs.Common.{◌≡◌, ℕ, List, ◌∷◌, ◌+◌, ◌<◌, length, drop, map, sym, ap, ◌∙◌, refl}
 use Rattle.std.proofs.Math.Seq.{drop-cons}
 use Rattle.std.proofs.Math.ListN.{get_or}
 use native.Mathlib.Numerals.{unary_clauses}
@@ -13,7 +13,7 @@ use Rattle.c_syntax.specs.declared.stmt.CStmt.TheOpen as Open
 use Rattle.c_syntax.specs.declared.stmt.CStmt.TheViews as view
 use Rattle.c_syntax.specs.declared.stmt.CStmt.TheVariants.{rolls-If, rolls-While, Par}
 use Rattle.c_syntax.specs.declared.stmt.CStmt.TheFolds.{fold-roll-CStmt}
-use Rattle.c_meaning.specs.Tree.{Stmts, both, more}
+use Rattle.c_meaning.specs.Tree.{both, more}
 use Rattle.c_meaning.specs.Local.{nest}
 use Rattle.c_meaning.specs.Tree.{greatest}
 use Rattle.c_meaning.specs.Resolve.{Names, before_last, last_of, resolved}

@@ -1,9 +1,8 @@
 -- The event of a frame is that of the statements that are left.
-use Rattle.std.proofs.Common.{◌≡◌, ℕ, zero, suc, ◌+◌, ◌-◌, ◌≤◌, ◌<◌, arith, List, [], ◌∷◌, ◌++◌, true, false, Bool, Some, None, Option, Result, Ok, Err, refl, sym, ap, ◌∙◌, length, slice_get, subst, take}
+use Rattle.std.proofs.Common.{◌≡◌, ℕ, zero, suc, ◌+◌, ◌-◌, ◌≤◌, ◌<◌, arith, List, [], ◌∷◌, ◌++◌, true, false, Bool, Some, None, Ok, Err, refl, sym, ap, ◌∙◌, length, slice_get, subst, take}
 use Rattle.std.specs.Prelude.{max}
 use Rattle.pl_resource.specs.Faults.{chain}
 use Rattle.pl_resource.specs.declared.value.Fault.{Fault}
-use Rattle.c_meaning.specs.declared.action.Action.{Action}
 use Rattle.c_meaning.specs.declared.action.Action.TheVariants as act
 use Rattle.c_meaning.specs.declared.code.Op.{Op}
 use Rattle.c_meaning.specs.declared.code.Op.TheVariants as op
@@ -11,21 +10,19 @@ use Rattle.c_meaning.specs.declared.code.Block.{Block}
 use Rattle.c_meaning.specs.declared.frame.Spot.{Spot}
 use Rattle.c_meaning.specs.declared.term.Term as rust
 use Rattle.c_meaning.specs.declared.term.Basic as basic
-use Rattle.c_meaning.specs.declared.act.Turn as code
 use Rattle.c_meaning.specs.declared.world.World as w
-use Rattle.c_meaning.specs.Tree.{Stmt, Stmts, Let, If, While, Check, Do, end, more, both}
+use Rattle.c_meaning.specs.Tree.{Stmts, Let, If, While, Check, Do, more, both}
 use Rattle.c_meaning.specs.Plain.{plain_term, plain_basic}
 use Rattle.c_meaning.specs.Values.{Env, eval}
 use Rattle.c_meaning.specs.Local.{nest}
 use Rattle.c_meaning.specs.Blocks.{stmt_of, ops_at, tree, IsTable, testing, left_in, left, fits, next, first}
 use Rattle.c_meaning.specs.Effects.{World, Own, Effect, Past, effect_of}
-use Rattle.c_meaning.specs.Acts.{turn_of, acted}
-use Rattle.c_meaning.specs.Events.{Done, quiet, faulted, event_in}
+use Rattle.c_meaning.specs.Events.{quiet, faulted, event_in}
 use Rattle.c_meaning.specs.Rooms.{BlockRoom}
-use Rattle.c_meaning.specs.Machine.{Taken, AtOp, stepped, BlockRoomAt}
+use Rattle.c_meaning.specs.Machine.{Taken, AtOp, BlockRoomAt}
 use Rattle.c_meaning.proofs.Lefts.{fits_snoc, fits_front, get_below}
-use Rattle.c_meaning.proofs.Moves.{in_at, in_first, left_with, left_entered, ended_told}
-use Rattle.c_meaning.proofs.Rooms.{nest_rest, nest_again, deeper, length_snoc}
+use Rattle.c_meaning.proofs.Moves.{in_at, left_with, left_entered, ended_told}
+use Rattle.c_meaning.proofs.Rooms.{nest_rest, deeper}
 
 abbrev pub checking : Spot → Spot
 checking s = record { block = s.block; at = s.at; checks = true }

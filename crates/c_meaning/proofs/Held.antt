@@ -1,11 +1,10 @@
 -- A lock that is held stays as it is where it is acquired again.
-use Rattle.std.proofs.Common.{◌≡◌, ℕ, zero, suc, List, [], ◌∷◌, true, false, Bool, Some, None, Option, Result, Ok, Err, refl, sym, ap, ◌∙◌, slice_get, slice_set}
+use Rattle.std.proofs.Common.{◌≡◌, ℕ, zero, suc, List, [], ◌∷◌, true, false, Some, None, Option, Ok, refl, sym, ap, ◌∙◌, slice_get, slice_set}
 use Rattle.pl_resource.specs.Faults.{chain}
-use Rattle.pl_resource.specs.LockTable.{is_free, is_free_of, set_of, marked, unless_ended, if_usable, usable}
+use Rattle.pl_resource.specs.LockTable.{is_free, is_free_of, set_of, marked, unless_ended, if_usable}
 use Rattle.pl_resource.specs.declared.lock_table.Lock.{Lock}
 use Rattle.pl_resource.specs.declared.lock_table.Mark.{Mark}
 use Rattle.pl_resource.specs.declared.lock_table.Mark.TheVariants.{Free, Held, Ended}
-use Rattle.pl_resource.specs.declared.value.Fault.{Fault}
 
 same_at : (xs : List Lock) (k : ℕ) (x : Lock) → slice_get xs k ≡ Some x → slice_set xs k x ≡ xs
 same_at [] k x h = refl

@@ -1,9 +1,8 @@
 -- What is left at places in blocks.
-use Rattle.std.proofs.Common.{◌≡◌, ℕ, zero, suc, ◌+◌, ◌≤◌, ◌<◌, arith, List, [], ◌∷◌, ◌++◌, true, false, Bool, Some, None, Option, refl, sym, ap, ◌∙◌, length, drop, slice_get}
-use Rattle.c_meaning.specs.Tree.{Term, Stmt, Stmts, Let, If, While, Check, Do, end, more, both}
-use Rattle.c_meaning.specs.Local.{nest, size, size_one}
-use Rattle.c_meaning.specs.Blocks.{stmt_of, stmts_of, ops_of, ops_at, tree_by, tree, below_one, all_below, IsTable, testing, left_in, left_of, left, fits}
-use Rattle.c_meaning.specs.Plain.{plain_term}
+use Rattle.std.proofs.Common.{◌≡◌, ℕ, zero, suc, ◌+◌, ◌≤◌, ◌<◌, arith, List, [], ◌∷◌, ◌++◌, Some, None, refl, sym, ap, ◌∙◌, length, drop, slice_get}
+use Rattle.c_meaning.specs.Tree.{Stmts, end, more, both}
+use Rattle.c_meaning.specs.Local.{nest}
+use Rattle.c_meaning.specs.Blocks.{stmt_of, stmts_of, ops_at, tree_by, tree, below_one, all_below, IsTable, left_in, left_of, fits}
 use Rattle.c_meaning.specs.declared.code.Op.{Op}
 use Rattle.c_meaning.specs.declared.code.Op.TheVariants as op
 use Rattle.c_meaning.specs.declared.code.Block.{Block}
@@ -66,4 +65,3 @@ pub get_below : {A : Type 0} (xs : List A) (n : ℕ) (x : A) → slice_get xs n 
 get_below [] n x h = cc
 get_below (y ∷ ys) zero x h = omega arith
 get_below (y ∷ ys) (suc n) x h = omega (arith, get_below ys n x h)
-

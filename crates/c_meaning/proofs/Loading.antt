@@ -1,9 +1,8 @@
 -- Functions that were loaded stay as the table grows.
-use Rattle.std.proofs.Common.{◌≡◌, ℕ, zero, suc, ◌+◌, ◌≤◌, ◌<◌, arith, List, [], ◌∷◌, ◌++◌, Some, None, Option, refl, sym, ap, ◌∙◌, length, map, drop, slice_get, subst, max}
+use Rattle.std.proofs.Common.{◌≡◌, ℕ, zero, suc, ◌+◌, ◌≤◌, ◌<◌, arith, List, [], ◌∷◌, ◌++◌, Some, None, refl, sym, ap, ◌∙◌, length, map, drop, slice_get, subst, max}
 use Rattle.std.proofs.Math.Seq.{drop-cons}
 use Rattle.std.proofs.Math.ListN.{get_or}
 use native.Mathlib.Numerals.{unary_clauses}
-use Rattle.c_syntax.specs.Tree as c
 use Rattle.c_syntax.specs.Plain.{plain_fun, plain_stmts, plain_program}
 use Rattle.c_syntax.specs.declared.program.CFun.{CFun}
 use Rattle.c_syntax.specs.declared.program.CStruct.{CStruct}
@@ -13,7 +12,7 @@ use Rattle.c_meaning.specs.declared.thread.Function as rust
 use Rattle.c_meaning.specs.Tree.{Stmts, Function, greatest}
 use Rattle.c_meaning.specs.Local.{nest}
 use Rattle.c_meaning.specs.Blocks.{IsTable, tree}
-use Rattle.c_meaning.specs.Resolve.{Names, names_in, function_of, functions_of, function_with, resolved, pointers_of, pointers_in}
+use Rattle.c_meaning.specs.Resolve.{function_of, functions_of, function_with, resolved, pointers_of, pointers_in}
 use Rattle.c_meaning.specs.Compiled.{Extends, Compiled, names_with}
 use Rattle.c_meaning.specs.Machine.{IsCode, IsDeep, function_shown, functions_shown}
 use Rattle.std.specs.Prelude.{codes, ℤ}

@@ -1,19 +1,17 @@
 -- A move of a thread is a step of the statements that are left.
-use Rattle.std.proofs.Common.{◌≡◌, ℕ, zero, suc, ◌+◌, ◌≤◌, ◌<◌, arith, List, [], ◌∷◌, ◌++◌, true, false, Bool, Some, None, Option, Result, Ok, Err, refl, sym, ap, ◌∙◌, length, drop, slice_get, slice_set}
+use Rattle.std.proofs.Common.{◌≡◌, ℕ, ◌+◌, List, [], ◌∷◌, ◌++◌, true, false, Bool, Some, None, Ok, Err, refl, sym, ap, ◌∙◌, drop, slice_get, slice_set}
 use native.Mathlib.Numerals.{unary_clauses}
-use Rattle.c_meaning.specs.Tree.{Term, Stmt, Stmts, Let, If, While, Check, Do, end, more, both}
+use Rattle.c_meaning.specs.Tree.{Stmt, Stmts, While, end, more, both}
 use Rattle.c_meaning.specs.Values.{Env, Outcome, eval}
-use Rattle.c_meaning.specs.Local.{Local, local, ran, chosen, let_to}
-use Rattle.c_meaning.specs.Blocks.{stmt_of, stmts_of, ops_at, tree, IsTable, testing, left_in, left_of, left, move_of, bind_move, pick_move, moves, spots_after, env_after, next, again, first}
+use Rattle.c_meaning.specs.Local.{local, ran, chosen, let_to}
+use Rattle.c_meaning.specs.Blocks.{stmt_of, stmts_of, ops_at, tree, IsTable, testing, left_in, left, move_of, bind_move, pick_move, moves, spots_after, env_after, next, again, first}
 use Rattle.c_meaning.specs.Plain.{plain_term}
-use Rattle.c_meaning.proofs.Lefts.{both_assoc, left_snoc, tree_is, drop_at, drop_none}
+use Rattle.c_meaning.proofs.Lefts.{left_snoc, tree_is, drop_at, drop_none}
 use Rattle.c_meaning.specs.declared.code.Op.{Op}
 use Rattle.c_meaning.specs.declared.code.Op.TheVariants as op
 use Rattle.c_meaning.specs.declared.code.Block.{Block}
 use Rattle.c_meaning.specs.declared.frame.Spot.{Spot}
-use Rattle.c_meaning.specs.declared.frame.Move.{Move}
-use Rattle.c_meaning.specs.declared.frame.Move.TheVariants.{Stay, Next, Bind, Enter, Loop}
-use Rattle.pl_resource.specs.declared.value.Value.{Value}
+use Rattle.c_meaning.specs.declared.frame.Move.TheVariants.{Next, Enter, Loop}
 use Rattle.pl_resource.specs.declared.value.Value.TheVariants as value
 
 -- what stands before an operation, and after it
@@ -85,4 +83,3 @@ ended_told T xs s h = left_with T xs s end (at_end s.checks (ap (stmts_of (tree 
     at_end : (b : Bool) → stmts_of (tree T) (drop s.at (ops_at T s.block)) ≡ end → testing b (stmts_of (tree T) (drop s.at (ops_at T s.block))) ≡ end
     at_end true e = ap (testing true) e
     at_end false e = e
-

@@ -1,21 +1,20 @@
 -- Places have room for those inside them, and a thread comes to stand.
-use Rattle.std.proofs.Common.{◌≡◌, ℕ, zero, suc, ◌+◌, ◌*◌, ◌≤◌, ◌<◌, arith, List, [], ◌∷◌, ◌++◌, true, false, Bool, Some, None, Option, Result, Ok, Err, refl, sym, ap, ◌∙◌, length, drop, slice_get, subst}
+use Rattle.std.proofs.Common.{◌≡◌, ℕ, suc, ◌+◌, ◌≤◌, ◌<◌, arith, List, [], ◌∷◌, ◌++◌, true, false, Bool, Some, None, Ok, Err, refl, ap, ◌∙◌, length, slice_get, subst}
 use Rattle.std.specs.Prelude.{max, ⊤}
-use Rattle.c_meaning.specs.Tree.{Term, Stmt, Stmts, Let, If, While, Check, Do, end, more, both}
+use Rattle.c_meaning.specs.Tree.{Stmts, more}
 use Rattle.c_meaning.specs.Values.{Env, Outcome, eval}
-use Rattle.c_meaning.specs.Local.{Local, local, ran, nest, nest_one, settle, rested, size}
-use Rattle.c_meaning.specs.Blocks.{stmt_of, stmts_of, ops_at, tree, IsTable, testing, left_in, left_of, left, fits, move_of, bind_move, pick_move, moves, spots_after, env_after, next, again, first, enters, Kept}
+use Rattle.c_meaning.specs.Local.{ran, nest, settle, rested, size}
+use Rattle.c_meaning.specs.Blocks.{stmt_of, ops_at, tree, IsTable, testing, left_in, left, fits, move_of, bind_move, pick_move, moves, spots_after, env_after, next, again, first, enters, Kept}
 use Rattle.c_meaning.specs.Plain.{plain_term}
 use Rattle.c_meaning.proofs.Lefts.{fits_snoc, fits_front}
 use Rattle.c_meaning.proofs.Moves.{in_at, in_first, move_told, ended_told}
-use Rattle.c_meaning.proofs.Settles.{Told, Steps, Stands, local_told}
+use Rattle.c_meaning.proofs.Settles.{Told, local_told}
 use Rattle.c_meaning.specs.declared.code.Op.{Op}
 use Rattle.c_meaning.specs.declared.code.Op.TheVariants as op
 use Rattle.c_meaning.specs.declared.code.Block.{Block}
 use Rattle.c_meaning.specs.declared.frame.Spot.{Spot}
 use Rattle.c_meaning.specs.declared.frame.Move.{Move}
 use Rattle.c_meaning.specs.declared.frame.Move.TheVariants.{Stay, Next, Bind, Enter, Loop}
-use Rattle.pl_resource.specs.declared.value.Value.{Value}
 use Rattle.pl_resource.specs.declared.value.Value.TheVariants as value
 
 max_left : (a b : ℕ) → a ≤ max a b
@@ -137,4 +136,3 @@ module _ (T : List Block) (is : IsTable T) (room : ℕ) (l : Stmts) (env : Env) 
       let e = stay_is (move_of s.checks o now) xs s now h in
       let r : rested (settle (left T (xs ++ s ∷ [])) now) ≡ (now, left T (xs ++ s ∷ [])) = rests_by (moves (move_of s.checks o now)) _ _ now _ (told_at xs s o now at) h in
       ap rested k.same ∙ (r ∙ cc (e.0, e.1))
-

@@ -1,5 +1,5 @@
 -- The turns of the loop that runs what needs no event, over plain lists.
-use Rattle.std.proofs.Common.{◌≡◌, ℕ, zero, suc, ◌+◌, ◌*◌, ◌≤◌, ◌<◌, arith, List, [], ◌∷◌, ◌++◌, true, false, Bool, Some, None, refl, sym, ap, ◌∙◌, length, slice_get, subst}
+use Rattle.std.proofs.Common.{◌≡◌, ℕ, suc, ◌+◌, ◌*◌, ◌≤◌, ◌<◌, arith, List, [], ◌∷◌, ◌++◌, true, false, Some, None, sym, ap, length, slice_get, subst}
 use Rattle.c_meaning.specs.Tree.{Stmts}
 use Rattle.c_meaning.specs.Values.{Env}
 use Rattle.c_meaning.specs.Local.{settle, rested, size}
@@ -45,4 +45,3 @@ module _ (T : List Block) (is : IsTable T) (room : ℕ) (l : Stmts) (env : Env) 
   turn_less o at m e h =
       let less : moves m ≡ true → size (left T (spots_after m xs s)) < size (left T (xs ++ s ∷ [])) = subst (λ z. moves z ≡ true → size (left T (spots_after z xs s)) < size (left T (xs ++ s ∷ []))) (sym e) (less_move T is room l env xs s o now at) in
       subst (λ z. Weight T (spots_after m xs s) < Weight T z) (sym popped) (omega (arith, less h, longer m))
-

@@ -1,12 +1,10 @@
 -- Running the statements that need no event, one at a time.
-use Rattle.std.proofs.Common.{◌≡◌, ℕ, zero, suc, ◌+◌, ◌≤◌, ◌<◌, arith, List, [], ◌∷◌, ◌++◌, true, false, Bool, Some, None, Option, Result, Ok, Err, refl, sym, ap, ◌∙◌, slice_set}
-use Rattle.c_meaning.specs.Tree.{Term, Stmt, Stmts, Let, If, While, Check, Do, end, more, both}
+use Rattle.std.proofs.Common.{◌≡◌, ℕ, ◌+◌, ◌<◌, arith, true, false, Some, None, Ok, Err, refl, sym, ap, ◌∙◌}
+use Rattle.c_meaning.specs.Tree.{Term, Stmts, Let, If, While, Check, Do, end, more, both}
 use Rattle.c_meaning.specs.Values.{Env, Outcome, eval}
-use Rattle.c_meaning.specs.Local.{Settled, fell, stood, single, go_on, back_to, branch, bound, settle_one, settle, rested, size, size_one, Local, chosen, let_to, local, ran}
-use Rattle.c_meaning.proofs.Lefts.{both_assoc, both_end}
-use Rattle.pl_resource.specs.declared.value.Value.{Value}
+use Rattle.c_meaning.specs.Local.{Settled, fell, stood, single, go_on, back_to, branch, bound, settle_one, settle, rested, size, Local, chosen, let_to, local}
+use Rattle.c_meaning.proofs.Lefts.{both_assoc}
 use Rattle.pl_resource.specs.declared.value.Value.TheVariants as value
-use Rattle.pl_resource.specs.declared.value.Fault.{Fault}
 
 pub settle_both : (a b : Stmts) (env : Env) → settle (both a b) env ≡ go_on (settle a env) b (settle b)
 settle_both end b env = refl
@@ -70,4 +68,3 @@ local_told (more (If e a b) rest) env = if_told e a b rest env (eval env e) refl
 local_told (more (Check l e b) rest) env = check_told l e b rest env (eval env e) refl
 local_told (more (Do b) rest) env = record { is = refl }
 local_told (more (While l e b) rest) env = record { is = refl }
-

@@ -1,6 +1,5 @@
 -- The event of a thread is that of the state.
-use Rattle.std.proofs.Common.{◌≡◌, ℕ, zero, suc, ◌+◌, ◌≤◌, ◌<◌, arith, List, [], ◌∷◌, ◌++◌, true, false, Bool, Some, None, Option, Result, Ok, Err, refl, sym, ap, ◌∙◌, length, map, reverse, slice_get, slice_set, slice_index_or, subst}
-use Rattle.std.specs.Prelude.{vec_capacity}
+use Rattle.std.proofs.Common.{◌≡◌, ℕ, zero, suc, ◌≤◌, ◌<◌, arith, List, [], ◌∷◌, ◌++◌, true, false, Bool, Some, None, Option, Result, Ok, Err, refl, sym, ap, ◌∙◌, length, map, slice_get, slice_set, slice_index_or, subst}
 use Rattle.pl_resource.specs.Faults.{chain}
 use Rattle.pl_resource.specs.declared.value.Fault.{Fault}
 use Rattle.c_meaning.specs.declared.action.Action.{Action}
@@ -10,7 +9,7 @@ use Rattle.c_meaning.specs.declared.state.Thread as thread
 use Rattle.c_meaning.specs.Tree.{Function}
 use Rattle.c_meaning.specs.Effects.{World}
 use Rattle.c_meaning.specs.Events.{State, Thread, Frame, Done, ready, next_by, next_from, next_of, is_enabled, atomic_at, event_of, event_from, event_of_frame, thread_of, state_after, called}
-use Rattle.c_meaning.specs.Machine.{AllFit, frames_shown, frame_shown, FrameFits, Moved, moved_by, moved_of, advanced, fork_shown, ForkFits}
+use Rattle.c_meaning.specs.Machine.{AllFit, frames_shown, frame_shown, Moved, moved_by, moved_of, fork_shown, ForkFits}
 use Rattle.c_meaning.specs.States.{thread_shown, ThreadsFit, ThreadAdded, frames_at, IsLast}
 use Rattle.c_meaning.proofs.Threads.{shown_snoc}
 

@@ -1,5 +1,5 @@
 -- A table that grows keeps its blocks.
-use Rattle.std.proofs.Common.{◌≡◌, ℕ, zero, suc, ◌+◌, ◌≤◌, ◌<◌, ◌^◌, arith, List, [], ◌∷◌, ◌++◌, true, false, Bool, Some, None, Option, refl, sym, ap, ◌∙◌, length, drop, slice_get, subst, map, inl, inr, ◌⊎◌}
+use Rattle.std.proofs.Common.{◌≡◌, ℕ, zero, suc, ◌≤◌, ◌<◌, ◌^◌, arith, List, [], ◌∷◌, ◌++◌, Some, None, refl, sym, ap, ◌∙◌, length, slice_get, subst, inl, inr, ◌⊎◌}
 use Rattle.std.specs.Prelude.{max}
 use Rattle.c_meaning.specs.Tree.{Stmt, Stmts, If, While, end, more, both}
 use Rattle.c_meaning.specs.Tree as t
@@ -104,13 +104,13 @@ made_one T U V whole os os' b s rest depth deep next top most last o m g flat un
     let inner : nest (both b (more s rest)) ≡ max (nest b) (nest (more s rest)) = nest_both b (more s rest) in
     let bound : greatest (both b (more s rest)) ≡ max (greatest b) (greatest (more s rest)) = greatest_both b (more s rest) in
     let here : whole ≡ both (stmts_of (tree U) os') (more s rest) = m.same ∙ (sym (both_assoc (stmts_of (tree U) os) b (more s rest)) ∙ ap (λ z. both z (more s rest)) (sym (g.same (tree U)))) in record {
-  extends = extends_trans T U V m.extends c.extends;
-  table = c.table;
-  below = all_snoc (length V) os' o (all_more (length U) (length V) (longer U V c.extends) os' (g.below (length U) m.below)) c.below;
-  same = here ∙ (cc (stmts_same U V m.table c.extends os' (g.below (length U) m.below), c.same) ∙ sym (stmts_snoc (tree V) os' o rest));
-  deep = omega (arith, m.deep, n, c.deep, inner, flat);
-  most = omega (arith, m.most, l, c.most, bound, unbound);
-}
+      extends = extends_trans T U V m.extends c.extends;
+      table = c.table;
+      below = all_snoc (length V) os' o (all_more (length U) (length V) (longer U V c.extends) os' (g.below (length U) m.below)) c.below;
+      same = here ∙ (cc (stmts_same U V m.table c.extends os' (g.below (length U) m.below), c.same) ∙ sym (stmts_snoc (tree V) os' o rest));
+      deep = omega (arith, m.deep, n, c.deep, inner, flat);
+      most = omega (arith, m.most, l, c.most, bound, unbound);
+    }
 
 get_last : (T : List Block) (b : Block) → slice_get (T ++ b ∷ []) (length T) ≡ Some b
 get_last [] b = refl

@@ -1,16 +1,14 @@
 -- The frames of a thread, the innermost last in the machine and first in a thread.
-use Rattle.std.proofs.Common.{◌≡◌, ℕ, zero, suc, ◌+◌, ◌-◌, ◌≤◌, ◌<◌, arith, List, [], ◌∷◌, ◌++◌, true, false, Bool, Some, None, Option, Result, Ok, Err, refl, sym, ap, ◌∙◌, length, map, reverse, slice_get, slice_set, subst}
-use Rattle.std.specs.Prelude.{vec_capacity, ⊤}
+use Rattle.std.proofs.Common.{◌≡◌, ℕ, zero, suc, ◌≤◌, arith, List, [], ◌∷◌, ◌++◌, Some, None, Option, refl, sym, ap, ◌∙◌, map, reverse, slice_get, subst}
 use Rattle.std.proofs.lemmas.List.{reverse-append}
 use Rattle.c_meaning.specs.declared.code.Block.{Block}
 use Rattle.c_meaning.specs.declared.frame.Spot.{Spot}
 use Rattle.c_meaning.specs.declared.thread.Function as rust
 use Rattle.c_meaning.specs.declared.thread.Frame as machine
-use Rattle.c_meaning.specs.Tree.{Stmts, end, Function}
-use Rattle.c_meaning.specs.Local.{nest, settle, rested}
+use Rattle.c_meaning.specs.Local.{nest}
 use Rattle.c_meaning.specs.Blocks.{IsTable, tree, left_in, left, fits, first}
-use Rattle.c_meaning.specs.Events.{Frame, Thread, no_function, or_none, function_numbered}
-use Rattle.c_meaning.specs.Machine.{frame_shown, frames_shown, FrameFits, AllFit, function_shown, functions_shown, shown_or_none, IsDeep, depth_of}
+use Rattle.c_meaning.specs.Events.{no_function, or_none, function_numbered}
+use Rattle.c_meaning.specs.Machine.{frame_shown, frames_shown, FrameFits, AllFit, function_shown, functions_shown, IsDeep}
 use Rattle.c_meaning.proofs.Moves.{in_first}
 
 map_snoc : {A B : Type 0} (f : A → B) (xs : List A) (x : A) → map f (xs ++ x ∷ []) ≡ map f xs ++ f x ∷ []

@@ -1,5 +1,5 @@
 -- What a statement touches is what its effect touches.
-use Rattle.std.proofs.Common.{◌≡◌, ℕ, ℤ, Bool, true, false, List, [], ◌∷◌, ◌++◌, Option, Some, None, Result, Ok, Err, refl, sym, ap, ◌∙◌, if◌then◌else◌, length, slice_set, subst, ◌+◌, arith, suc, ◌&&◌, nat_lt}
+use Rattle.std.proofs.Common.{◌≡◌, ℕ, Bool, true, false, List, [], ◌∷◌, ◌++◌, Option, Some, None, Result, Ok, Err, refl, sym, ap, ◌∙◌, if◌then◌else◌, length, slice_set, subst, ◌+◌, arith, suc, ◌&&◌, nat_lt}
 use Rattle.pl_resource.specs.Faults.{chain}
 use Rattle.pl_resource.specs.Heap.{load_of, store_of, cas_of, free_of, made}
 use Rattle.pl_resource.specs.LockTable.{set_of, end_of}
@@ -19,13 +19,13 @@ use Rattle.c_meaning.specs.declared.term.Basic as basic
 use Rattle.c_meaning.specs.Plain.{plain_term, plain_basic}
 use Rattle.c_meaning.specs.Tree.{Stmts, Let, If, Do, more}
 use Rattle.c_meaning.specs.Blocks.{stmt_of, tree, testing}
-use Rattle.c_meaning.specs.Events.{Done, faulted, event_in, next_by, atomic_at}
+use Rattle.c_meaning.specs.Events.{faulted, event_in, next_by, atomic_at}
 use Rattle.c_meaning.specs.Machine.{AtOp}
 use Rattle.c_meaning.proofs.Rooms.{length_snoc}
 use Rattle.c_meaning.specs.Tree.{Term, Basic, Load, Store, Cas, Make, Free, NewLock, Acquire, Release, Read, Print, Call, Fork, Join, Return}
 use Rattle.c_meaning.specs.Values.{Env, Outcome, local_of, eval, eval_onto, arguments}
 use Rattle.c_meaning.specs.Effects.{World, Own, Effect, offset_of, base_of, cell_at, eval_number, count_of, has_fields, far, past, binding, with_blocks, made_block, lock_of_local, freed, joined, effect_of}
-use Rattle.c_meaning.specs.Touches.{untouched, touch_of, is_atomic, touched}
+use Rattle.c_meaning.specs.Touches.{untouched, is_atomic, touched}
 use Rattle.c_meaning.specs.Touching.{told, sound_all, freeing, joining, some_fields, touching}
 
 -- the one touch is what the effect touches

@@ -1,7 +1,6 @@
 -- What an operation of the code has done, as an effect.
-use Rattle.std.specs.Prelude.{ℕ, ℤ, List, [], ◌∷◌, Option, Some, None, Result, Ok, Err, drop}
+use Rattle.std.specs.Prelude.{Result, Ok, Err, drop}
 use Rattle.pl_resource.specs.declared.value.Fault.{Fault}
-use Rattle.pl_resource.specs.declared.value.Value.{Value}
 use Rattle.c_meaning.specs.declared.action.Action.{Action}
 use Rattle.c_meaning.specs.declared.world as rust
 use Rattle.c_meaning.specs.declared.act.Turn as code

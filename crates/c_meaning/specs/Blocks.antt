@@ -1,6 +1,6 @@
 -- The statements that a table of blocks holds, and those that are left at a place in it.
-use Rattle.std.specs.Prelude.{◌≡◌, ℕ, zero, suc, ◌+◌, ◌-◌, ◌<◌, ◌≤◌, ◌^◌, Bool, true, false, List, [], ◌∷◌, ◌++◌, Option, Some, None, slice_get, length, map, drop, ⊤, Result, Ok, Err}
-use Rattle.c_meaning.specs.Tree.{Term, Stmt, Stmts, Let, If, While, Check, Do, end, more, both}
+use Rattle.std.specs.Prelude.{◌≡◌, ℕ, zero, suc, ◌+◌, ◌<◌, ◌≤◌, ◌^◌, Bool, true, false, List, [], ◌∷◌, ◌++◌, Option, Some, None, slice_get, length, drop, ⊤, Ok, Err}
+use Rattle.c_meaning.specs.Tree.{Stmt, Stmts, Let, If, While, Check, Do, end, more, both}
 use Rattle.c_meaning.specs.Local.{nest, settle}
 use Rattle.c_meaning.specs.Values.{Env, Outcome, eval}
 use Rattle.pl_resource.specs.declared.value.Value.TheVariants as value
@@ -125,4 +125,3 @@ enters _ = 1
 pub record Kept (T : List Block) (room : ℕ) (l : Stmts) (env : Env) (spots : List Spot) (now : Env) : Type 0 where
   pub same : settle l env ≡ settle (left T spots) now
   pub fits : fits T 0 room spots
-

@@ -1,5 +1,5 @@
 -- What one event does to the locals of its frame and to what the threads share.
-use Rattle.std.specs.Prelude.{ℕ, zero, ℤ, pos, negsuc, ◌-◌, ◌^◌, ◌&&◌, nat_lt, Bool, true, false, List, [], ◌∷◌, ◌++◌, Option, Some, None, Result, Ok, Err, if◌then◌else◌, length, slice_get, slice_set}
+use Rattle.std.specs.Prelude.{ℕ, zero, ℤ, pos, negsuc, ◌-◌, ◌^◌, ◌&&◌, nat_lt, Bool, true, false, List, [], ◌∷◌, ◌++◌, Option, Some, None, Result, Ok, Err, if◌then◌else◌, length, slice_set}
 use Rattle.pl_resource.specs.Faults.{chain}
 use Rattle.pl_resource.specs.Heap.{Blocks, made, load_of, store_of, cas_of, free_of}
 use Rattle.pl_resource.specs.LockTable.{set_of, end_of}
@@ -14,7 +14,7 @@ use Rattle.c_meaning.specs.declared.action.Action.{Action}
 use Rattle.c_meaning.specs.declared.action.Action.TheVariants as act
 use Rattle.c_meaning.specs.declared.act.Offset.{Offset}
 use Rattle.c_meaning.specs.Tree.{Term, Place, Whole, At, Field, Basic, Load, Store, Cas, Make, Free, NewLock, Acquire, Release, Read, Print, Call, Fork, Join, Return}
-use Rattle.c_meaning.specs.Values.{Env, Outcome, local_of, eval, eval_onto, arguments}
+use Rattle.c_meaning.specs.Values.{Env, local_of, eval, eval_onto, arguments}
 
 -- what all threads share: the blocks, the locks, the numbers of the input that are left, and what was printed
 pub record World : Type 0 where
@@ -124,8 +124,8 @@ with_locks world locks = record world { locks = locks }
 abbrev pub made_block : Bool → ℕ → Own → World → List Value → ℕ → Result Effect Fault
 made_block atomic x own world first count =
     if has_fields first then
-      past (act.Alloc (length world.blocks) count) (binding own x (value.Block (length world.blocks)))
-        (with_blocks world (world.blocks ++ Some (made atomic first count) ∷ []))
+    past (act.Alloc (length world.blocks) count) (binding own x (value.Block (length world.blocks)))
+    (with_blocks world (world.blocks ++ Some (made atomic first count) ∷ []))
     else Err fault.Kind
 
 -- a free of a block or of a lock
@@ -183,7 +183,7 @@ effect_of next blank (Make x atomic first count) own world =
 effect_of next blank (Free base) own world = chain (local_of own.env base) (freed own world)
 effect_of next blank (NewLock x) own world =
     past (act.NewLock (length world.locks)) (binding own x (value.Lock (length world.locks)))
-      (with_locks world (world.locks ++ record { mark = mark.Free; entry = None } ∷ []))
+    (with_locks world (world.locks ++ record { mark = mark.Free; entry = None } ∷ []))
 effect_of next blank (Acquire lock) own world =
     chain (lock_of_local own.env lock) (λ k.
     chain (set_of world.locks k true) (λ locks.

@@ -1,5 +1,5 @@
 -- States of a program, and what a thread stands before.
-use Rattle.std.specs.Prelude.{◌≡◌, ℕ, ℤ, ◌&&◌, Bool, true, false, List, [], ◌∷◌, ◌++◌, Option, Some, None, Result, Ok, Err, length, replicate, slice_get, slice_set, slice_index_or, option_map}
+use Rattle.std.specs.Prelude.{ℕ, ◌&&◌, Bool, true, false, List, [], ◌∷◌, ◌++◌, Option, Some, None, Result, Ok, Err, length, replicate, slice_get, slice_set, slice_index_or}
 use Rattle.pl_resource.specs.Faults.{chain}
 use Rattle.pl_resource.specs.LockTable.{is_free_of}
 use Rattle.pl_resource.specs.declared.lock_table.Lock.{Lock}
@@ -9,12 +9,11 @@ use Rattle.pl_resource.specs.declared.value.Value.{Value}
 use Rattle.pl_resource.specs.declared.value.Value.TheVariants as value
 use Rattle.c_meaning.specs.declared.action.Action.{Action}
 use Rattle.c_meaning.specs.declared.action.Action.TheVariants as act
-use Rattle.c_meaning.specs.declared.action.Touch.{Touch}
 use Rattle.c_meaning.specs.declared.action.Next.{Next}
 use Rattle.c_meaning.specs.declared.action.Next.TheVariants as next
-use Rattle.c_meaning.specs.Tree.{Stmt, Stmts, Let, If, While, Check, Do, end, more, both, Basic, Call, Fork, Function}
+use Rattle.c_meaning.specs.Tree.{Stmts, Let, If, While, Check, Do, end, more, both, Basic, Call, Fork, Function}
 use Rattle.c_meaning.specs.Values.{Env, Outcome, eval}
-use Rattle.c_meaning.specs.Local.{Settled, settle, rested}
+use Rattle.c_meaning.specs.Local.{settle, rested}
 use Rattle.c_meaning.specs.Effects.{World, Own, Effect, Turn, Past, Calls, Forks, Returns, effect_of}
 use Rattle.c_meaning.specs.Touches.{touch_of, is_atomic}
 

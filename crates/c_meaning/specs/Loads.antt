@@ -1,5 +1,5 @@
 -- The functions of a program in a table of blocks.
-use Rattle.std.specs.Prelude.{◌≡◌, ◌≤◌, ◌<◌, ⊤, ℕ, List, [], ◌∷◌, length}
+use Rattle.std.specs.Prelude.{◌≡◌, ◌≤◌, ◌<◌, ⊤, List, [], ◌∷◌, length}
 use Rattle.c_meaning.specs.declared.code.Block.{Block}
 use Rattle.c_meaning.specs.declared.thread.Function as rust
 use Rattle.c_meaning.specs.Tree.{Function}

@@ -1,9 +1,7 @@
 -- The statements that a thread runs by itself, and where it then stands.
-use Rattle.std.specs.Prelude.{◌≡◌, ℕ, zero, suc, ◌+◌, ◌-◌, ◌*◌, ◌<◌, ◌≤◌, Bool, true, false, List, [], ◌∷◌, ◌++◌, Option, Some, None, Result, Ok, Err, slice_get, slice_set, length, map, max}
-use Rattle.c_meaning.specs.Tree.{Term, Stmt, Stmts, Let, If, While, Check, Do, end, more, both}
+use Rattle.std.specs.Prelude.{ℕ, suc, ◌+◌, Bool, true, false, Option, Some, None, Ok, Err, slice_set, max}
+use Rattle.c_meaning.specs.Tree.{Stmt, Stmts, Let, If, While, Check, Do, end, more, both}
 use Rattle.c_meaning.specs.Values.{Env, Outcome, eval}
-use Rattle.pl_resource.specs.declared.value.Fault.{Fault}
-use Rattle.pl_resource.specs.declared.value.Value.{Value}
 use Rattle.pl_resource.specs.declared.value.Value.TheVariants as value
 
 -- the end was reached, or these statements are left
@@ -100,4 +98,3 @@ local (more _ rest) env = None
 abbrev pub ran : Bool → Stmts → Env → Local
 ran true l env = Some (l, env)
 ran false l env = None
-

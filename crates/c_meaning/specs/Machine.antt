@@ -1,5 +1,5 @@
 -- What the frames of the machine show.
-use Rattle.std.specs.Prelude.{◌≡◌, ℕ, suc, ◌≤◌, ◌+◌, ◌<◌, Bool, true, false, ⊤, List, [], ◌∷◌, ◌++◌, Option, Some, None, Result, Ok, Err, map, reverse, replicate, length, slice_get, vec_len, vec_capacity}
+use Rattle.std.specs.Prelude.{◌≡◌, ℕ, suc, ◌≤◌, Bool, ⊤, List, [], ◌∷◌, ◌++◌, Option, Some, None, Result, Ok, Err, map, reverse, slice_get, vec_capacity}
 use Rattle.pl_resource.specs.Faults.{chain}
 use Rattle.pl_resource.specs.declared.value.Fault.{Fault}
 use Rattle.pl_resource.specs.declared.value.Fault.TheVariants as fault
@@ -11,11 +11,11 @@ use Rattle.c_meaning.specs.declared.act.Turn as code
 use Rattle.c_meaning.specs.declared.thread.Function as rust
 use Rattle.c_meaning.specs.declared.thread.Frame as machine
 use Rattle.c_meaning.specs.declared.world.World as w
-use Rattle.c_meaning.specs.Tree.{Stmts, more, end, Basic, Do, Function}
+use Rattle.c_meaning.specs.Tree.{Stmts, more, Do, Function}
 use Rattle.c_meaning.specs.Values.{Env}
 use Rattle.c_meaning.specs.Local.{nest}
 use Rattle.c_meaning.specs.Blocks.{IsTable, tree, stmt_of, testing, left, fits}
-use Rattle.c_meaning.specs.Effects.{World, Own, Effect}
+use Rattle.c_meaning.specs.Effects.{World, Own}
 use Rattle.c_meaning.specs.Acts.{turn_of}
 use Rattle.c_meaning.specs.Rooms.{BlockRoom}
 use Rattle.c_meaning.specs.Events.{Frame, Thread, Done, event_of_frame, called, blank, no_function, frames_after, frame_behind, forked}

@@ -1,5 +1,5 @@
 -- From the code to plain data.
-use Rattle.std.specs.Prelude.{List, map}
+use Rattle.std.specs.Prelude.{map}
 use Rattle.c_meaning.specs.Tree as t
 use Rattle.c_meaning.specs.declared.term.Term as term
 use Rattle.c_meaning.specs.declared.term.Term.TheVariants.{Int, Truth, Null, Var, Neg', Not', Bin'}

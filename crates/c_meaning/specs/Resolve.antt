@@ -1,5 +1,5 @@
 -- How the names of a C program are resolved.
-use Rattle.std.specs.Prelude.{ℕ, ℤ, pos, zero, suc, max, ◌==◌, Bool, true, false, List, [], ◌∷◌, ◌++◌, Option, Some, None, length, map, if◌then◌else◌, slice_get, codes}
+use Rattle.std.specs.Prelude.{ℕ, pos, zero, suc, max, ◌==◌, true, false, List, [], ◌∷◌, ◌++◌, Option, Some, None, length, map, if◌then◌else◌, slice_get, codes}
 use Rattle.std.specs.Str.{bytes_eq}
 use Rattle.c_syntax.specs.declared.kind.CType.{CType}
 use Rattle.c_syntax.specs.declared.kind.CType.TheVariants as kind
@@ -8,7 +8,7 @@ use Rattle.c_syntax.specs.declared.program.CParam.{CParam}
 use Rattle.c_syntax.specs.declared.program.CStruct.{CStruct}
 use Rattle.c_syntax.specs.Tree as c
 use Rattle.c_meaning.specs.declared.resolve.Pointer.{Pointer}
-use Rattle.c_meaning.specs.Tree.{Term, Int, Truth, Null, Var, Neg, Not, Bin, Place, Whole, At, Field, Basic, Load, Store, Cas, Make, Free, NewLock, Acquire, Release, Read, Print, Call, Fork, Join, Return, Stmt, Let, If, While, Do, Stmts, end, more, both, Function, greatest}
+use Rattle.c_meaning.specs.Tree.{Term, Int, Truth, Null, Var, Neg, Not, Bin, Place, Whole, At, Field, Load, Store, Cas, Make, Free, NewLock, Acquire, Release, Read, Print, Call, Fork, Join, Return, Stmt, Let, If, While, Do, Stmts, end, more, both, Function, greatest}
 
 -- the place of a name among those, from 0; past the end where it isn't there
 abbrev pub place_of : List c.Name → c.Name → ℕ

@@ -1,5 +1,5 @@
 -- The memory that an event needs.
-use Rattle.std.specs.Prelude.{◌≡◌, ℕ, ◌≤◌, ◌<◌, ⊤, List, Option, Some, Ok, IsTrue, length, vec_len, vec_capacity}
+use Rattle.std.specs.Prelude.{◌≡◌, ℕ, ◌≤◌, ◌<◌, ⊤, Some, Ok, IsTrue, length, vec_len, vec_capacity}
 use Rattle.pl_resource.specs.Faults.{chain}
 use Rattle.pl_resource.specs.Heap.{IsFields}
 use Rattle.c_meaning.specs.declared.world.World.{World}

@@ -1,5 +1,5 @@
 -- What a machine holds, and the state that it shows.
-use Rattle.std.specs.Prelude.{◌≡◌, ℕ, ◌≤◌, ◌<◌, ◌^◌, ⊤, List, [], ◌∷◌, ◌++◌, Option, Some, None, Result, map, length, slice_get, vec_len, vec_capacity}
+use Rattle.std.specs.Prelude.{◌≡◌, ℕ, ◌<◌, ⊤, List, [], ◌∷◌, ◌++◌, Option, Some, None, map, vec_len, vec_capacity}
 use Rattle.c_syntax.specs.Tree.{Program}
 use Rattle.c_meaning.specs.declared.code.Block.{Block}
 use Rattle.c_meaning.specs.declared.thread.Function as rust
@@ -11,7 +11,7 @@ use Rattle.c_meaning.specs.Resolve.{functions_of}
 use Rattle.c_meaning.specs.Acts.{shared}
 use Rattle.c_meaning.specs.Rooms.{SmallRoom}
 use Rattle.c_meaning.specs.Events.{State, Thread}
-use Rattle.c_meaning.specs.Machine.{IsCode, functions_shown, frames_shown, AllFit, RoomAt}
+use Rattle.c_meaning.specs.Machine.{functions_shown, frames_shown, AllFit, RoomAt}
 
 -- the code, the threads, what these share, and the thread for whose next event there is room
 pub record Held : Type 0 where
@@ -43,7 +43,6 @@ ThreadsFit T (t ∷ ts) = AllFit T t.frames.items × ThreadsFit T ts
 abbrev pub FramesRoom : Option thread.Thread → Type 0
 FramesRoom None = ⊤
 FramesRoom (Some t) = vec_len t.frames < vec_capacity t.frames
-
 
 abbrev pub frames_at : Option thread.Thread → List machine.Frame
 frames_at None = []

@@ -1,5 +1,5 @@
 -- The runs of a C program.
-use Rattle.std.specs.Prelude.{◌≡◌, ℕ, ℤ, ◌<◌, ◌&&◌, ◌||◌, not, ◌==◌, Bool, true, false, List, [], ◌∷◌, ◌++◌, Option, Some, None, Result, Ok, Err, if◌then◌else◌}
+use Rattle.std.specs.Prelude.{◌≡◌, ℕ, ℤ, ◌<◌, ◌&&◌, ◌||◌, not, ◌==◌, Bool, true, List, [], ◌∷◌, Option, Some, None, Ok, if◌then◌else◌}
 use Rattle.pl_resource.specs.declared.value.Cell.{Cell}
 use Rattle.pl_resource.specs.declared.value.Fault.{Fault}
 use Rattle.c_syntax.specs.Tree.{Program}
@@ -8,7 +8,6 @@ use Rattle.c_meaning.specs.declared.action.Touch.{Touch}
 use Rattle.c_meaning.specs.declared.action.Next.{Next}
 use Rattle.c_meaning.specs.declared.action.Next.TheVariants as next
 use Rattle.c_meaning.specs.Resolve.{functions_of, main_place}
-use Rattle.c_meaning.specs.Effects.{World}
 use Rattle.c_meaning.specs.Events.{State, event_of, next_of, is_enabled, begun, blank, function_numbered}
 
 -- before the first event: one thread, in `main`, without a block or a lock

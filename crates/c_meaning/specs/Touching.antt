@@ -1,5 +1,5 @@
 -- What a statement touches, by looking alone.
-use Rattle.std.specs.Prelude.{ℕ, Bool, true, false, ◌∷◌, [], List, Option, Some, None, Result, Ok, Err, if◌then◌else◌}
+use Rattle.std.specs.Prelude.{ℕ, true, false, ◌∷◌, [], List, Option, Some, None, Result, Ok, Err, if◌then◌else◌}
 use Rattle.pl_resource.specs.Faults.{chain}
 use Rattle.pl_resource.specs.Heap.{load_of, store_of, cas_of, free_of}
 use Rattle.pl_resource.specs.LockTable.{set_of, end_of}
@@ -9,7 +9,7 @@ use Rattle.pl_resource.specs.declared.value.Value.{Value}
 use Rattle.pl_resource.specs.declared.value.Value.TheVariants as value
 use Rattle.c_meaning.specs.declared.action.Touch.{Touch}
 use Rattle.c_meaning.specs.Tree.{Term, Basic, Load, Store, Cas, Make, Free, NewLock, Acquire, Release, Read, Print, Call, Fork, Join, Return}
-use Rattle.c_meaning.specs.Values.{Env, local_of, eval, eval_onto, arguments}
+use Rattle.c_meaning.specs.Values.{Env, local_of, eval}
 use Rattle.c_meaning.specs.Effects.{World, Own, offset_of, base_of, cell_at, eval_number, count_of, has_fields, lock_of_local}
 use Rattle.c_meaning.specs.Touches.{untouched}
 

@@ -1,5 +1,5 @@
 -- A program whose names are resolved: locals, functions and fields are numbers.
-use Rattle.std.specs.Prelude.{ℕ, ℤ, suc, max, Bool, List, Option, Some, None}
+use Rattle.std.specs.Prelude.{ℕ, ℤ, max, Bool, List, Option, Some}
 use Rattle.c_syntax.specs.declared.expr.COp.{COp}
 
 -- an expression; x is the number of a local

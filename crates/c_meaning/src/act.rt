@@ -134,7 +134,11 @@ pub(crate) fn lock_of(env: &[Value], x: u32) -> Result<u32, Fault>
 }
 
 /// The values of expressions, in order, behind those that are there.
-pub(crate) fn evaluate_onto(list: &[Term], env: &[Value], values: &mut Vec<Value>) -> Result<(), Fault>
+pub(crate) fn evaluate_onto(
+    list: &[Term],
+    env: &[Value],
+    values: &mut Vec<Value>,
+) -> Result<(), Fault>
     requires { vec_len values.old + length list.now ≤ vec_capacity values.old }
     ensures values { leaves result values.new.items ≡ eval_onto values.old.items env.now (map plain_term list.now) }
     ensures len { OnOk result (vec_len values.new ≡ vec_len values.old + length list.now) }

@@ -91,8 +91,15 @@ fn add_before(
 {
     match s {
         CStmt::Par(f, args, g, others) => {
-            let fork = Basic::Fork(function_place(funs, f)?, resolve_all(alloc, args.as_slice())?);
-            let call = Basic::Call(None, function_place(funs, g)?, resolve_all(alloc, others.as_slice())?);
+            let fork = Basic::Fork(
+                function_place(funs, f)?,
+                resolve_all(alloc, args.as_slice())?,
+            );
+            let call = Basic::Call(
+                None,
+                function_place(funs, g)?,
+                resolve_all(alloc, others.as_slice())?,
+            );
             ops.push(Op::Do(fork))?;
             ops.push(Op::Do(call))?;
             Ok(())
@@ -124,7 +131,13 @@ fn compile_one(
     match s {
         CStmt::Let(_, x, e) => {
             let op = Op::Let(x.number, resolve(alloc, e)?);
-            Ok((op, Size { depth: 0, greatest: x.number }))
+            Ok((
+                op,
+                Size {
+                    depth: 0,
+                    greatest: x.number,
+                },
+            ))
         }
         CStmt::If(e, first, second) => {
             let (a, left) = compile(alloc, structs, funs, pointers, first.as_slice(), code)?;
@@ -157,8 +170,16 @@ fn compile_one(
             Ok(event(Basic::Make(x.number, false, first, Term::Int(1))))
         }
         CStmt::Free(base) => Ok(event(Basic::Free(base.number))),
-        CStmt::AtomicLoad(x, base) => Ok(event(Basic::Load(x.number, Place::Whole(base.number), true))),
-        CStmt::AtomicStore(base, e) => Ok(event(Basic::Store(Place::Whole(base.number), resolve(alloc, e)?, true))),
+        CStmt::AtomicLoad(x, base) => Ok(event(Basic::Load(
+            x.number,
+            Place::Whole(base.number),
+            true,
+        ))),
+        CStmt::AtomicStore(base, e) => Ok(event(Basic::Store(
+            Place::Whole(base.number),
+            resolve(alloc, e)?,
+            true,
+        ))),
         CStmt::Cas(x, base, old, new) => {
             let expected = resolve(alloc, old)?;
             Ok(event(Basic::Cas(x.number, base.number, expected, resolve(alloc, new)?)))

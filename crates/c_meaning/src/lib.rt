@@ -18,6 +18,5 @@ mod world;
 pub use action::{Action, Event, History, Next, Touch};
 pub use state::CState;
 
-
 #[cfg(test)]
 mod tests;

@@ -55,7 +55,14 @@ fn load_function(
     ensures { IfOk result (λ r. Loaded code.old.items code.new.items r (function_with (length f.now.params) (resolved (names_with structs.now funs.now (pointers_of structs.now f.now.params ++ pointers_in structs.now (plain_stmts f.now.body))) (plain_stmts f.now.body)))) }
 {
     let pointers = pointers_of(alloc, structs, f)?;
-    let (body, size) = compile(alloc, structs, funs, pointers.as_slice(), f.body.as_slice(), code)?;
+    let (body, size) = compile(
+        alloc,
+        structs,
+        funs,
+        pointers.as_slice(),
+        f.body.as_slice(),
+        code,
+    )?;
     let slots = slots_of(f.params.as_slice().len(), size.greatest)?;
     Ok(Function {
         body,
@@ -65,7 +72,11 @@ fn load_function(
 }
 
 /// The functions of a program, in the table.
-pub(crate) fn load(alloc: Global, program: &CProgram, code: &mut Vec<Block>) -> Result<Vec<Function>, Memory>
+pub(crate) fn load(
+    alloc: Global,
+    program: &CProgram,
+    code: &mut Vec<Block>,
+) -> Result<Vec<Function>, Memory>
     requires { code.old.items ≡ [] }
     ensures code { IfOk result (λ fs. IsCode code.new.items fs.items) }
     ensures functions { IfOk result (λ fs. functions_shown code.new.items fs.items ≡ functions_of (plain_program program.now)) }

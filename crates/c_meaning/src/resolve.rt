@@ -66,7 +66,12 @@ fn next_place(place: u32) -> Result<u32, Memory>
     }
 }
 
-fn add_pointer(structs: &[CStruct], x: u32, kind: &CType, pointers: &mut Vec<Pointer>) -> Result<(), Memory>
+fn add_pointer(
+    structs: &[CStruct],
+    x: u32,
+    kind: &CType,
+    pointers: &mut Vec<Pointer>,
+) -> Result<(), Memory>
     ensures { OnOk result (pointers.new.items ≡ pointers.old.items ++ pointer_of structs.now x kind.now) }
 {
     if let CType::PtrStruct(name) = kind {
@@ -75,16 +80,28 @@ fn add_pointer(structs: &[CStruct], x: u32, kind: &CType, pointers: &mut Vec<Poi
     Ok(())
 }
 
-fn add_structure(structs: &[CStruct], x: u32, name: &Name, pointers: &mut Vec<Pointer>) -> Result<(), Memory>
+fn add_structure(
+    structs: &[CStruct],
+    x: u32,
+    name: &Name,
+    pointers: &mut Vec<Pointer>,
+) -> Result<(), Memory>
     ensures { OnOk result (pointers.new.items ≡ pointers.old.items ++ pointer_of structs.now x (PtrStruct name.now)) }
 {
     let structure = struct_place(structs, name)?;
-    pointers.push(Pointer { local: x, structure })?;
+    pointers.push(Pointer {
+        local: x,
+        structure,
+    })?;
     Ok(())
 }
 
 /// Adds the parameters that point to structures.
-pub(crate) fn add_params(structs: &[CStruct], params: &[CParam], pointers: &mut Vec<Pointer>) -> Result<(), Memory>
+pub(crate) fn add_params(
+    structs: &[CStruct],
+    params: &[CParam],
+    pointers: &mut Vec<Pointer>,
+) -> Result<(), Memory>
     ensures { OnOk result (pointers.new.items ≡ pointers.old.items ++ pointers_of structs.now params.now) }
 {
     for p in params {
@@ -95,7 +112,11 @@ pub(crate) fn add_params(structs: &[CStruct], params: &[CParam], pointers: &mut 
 
 /// Adds the locals that these statements bind and that point to structures.
 #[cycle(pointers)]
-pub(crate) fn add_pointers(structs: &[CStruct], list: &[CStmt], pointers: &mut Vec<Pointer>) -> Result<(), Memory>
+pub(crate) fn add_pointers(
+    structs: &[CStruct],
+    list: &[CStmt],
+    pointers: &mut Vec<Pointer>,
+) -> Result<(), Memory>
     ensures { OnOk result (pointers.new.items ≡ pointers.old.items ++ pointers_in structs.now (plain_stmts list.now)) }
 {
     for s in list {
@@ -105,7 +126,11 @@ pub(crate) fn add_pointers(structs: &[CStruct], list: &[CStmt], pointers: &mut V
 }
 
 #[cycle(pointers)]
-fn add_pointers_of(structs: &[CStruct], s: &CStmt, pointers: &mut Vec<Pointer>) -> Result<(), Memory>
+fn add_pointers_of(
+    structs: &[CStruct],
+    s: &CStmt,
+    pointers: &mut Vec<Pointer>,
+) -> Result<(), Memory>
     ensures { OnOk result (pointers.new.items ≡ pointers.old.items ++ pointers_in_one structs.now (plain_stmt s.now)) }
 {
     match s {
@@ -196,7 +221,12 @@ pub(crate) fn resolve_first(alloc: Global, list: &[CInit]) -> Result<Items<Term>
 }
 
 /// A cell, with its base and its field by number.
-pub(crate) fn resolve_cell(alloc: Global, structs: &[CStruct], pointers: &[Pointer], cell: &CCell) -> Result<Place, Memory>
+pub(crate) fn resolve_cell(
+    alloc: Global,
+    structs: &[CStruct],
+    pointers: &[Pointer],
+    cell: &CCell,
+) -> Result<Place, Memory>
     ensures { IfOk result (λ made. (functions : List (List ℕ)) → plain_place made ≡ cell_of (record { structs = structs.now; functions = functions; pointers = pointers.now }) (plain_cell cell.now)) }
 {
     match cell {

@@ -15,9 +15,9 @@ ghost use Rattle.pl_resource.specs.Heap.{IsFields};
 ghost use Rattle.c_meaning.specs.declared.code.Block.{Block};
 ghost use Rattle.c_meaning.specs.States.{shown, runs, IsFor, IsLast, frames_at, HasRoom, ThreadAdded, ThreadsFit, thread_shown};
 
+use crate::act::{count_of, number};
 use crate::action::{Action, Event, Next};
 use crate::code::{Block, Op};
-use crate::act::{count_of, number};
 use crate::load::load;
 use crate::locks::Locks;
 use crate::resolve::function_place;
@@ -59,7 +59,6 @@ impl Model for CState {
     ghost use Rattle.std.specs.Option.{ForSome};
     ghost use Rattle.c_meaning.specs.Machine.{IsCode, functions_shown};
     ghost use Rattle.c_meaning.specs.States.{Held, ThreadsFit, HasRoom};
-
     ghost use Rattle.std.specs.Coded.{codes};
     ghost use Rattle.c_meaning.specs.contracts.term.Term as term;
 
@@ -257,7 +256,12 @@ fn first_world(alloc: Global, input: &[i64]) -> Result<World, Memory>
 }
 
 // The thread that runs `main`.
-fn first_thread(alloc: Global, code: &[Block], functions: &[Function], main: u32) -> Result<Vec<Thread>, Memory>
+fn first_thread(
+    alloc: Global,
+    code: &[Block],
+    functions: &[Function],
+    main: u32,
+) -> Result<Vec<Thread>, Memory>
     requires { IsCode code.now functions.now }
     ensures shown { IfOk result (λ ts. map (thread_shown code.now) ts.items ≡ (begun (function_numbered (functions_shown code.now functions.now) (Some main)) (blank (function_numbered (functions_shown code.now functions.now) (Some main))) None ∷ []) ∷ []) }
     ensures fits { IfOk result (λ ts. ThreadsFit code.now ts.items) }
@@ -370,7 +374,12 @@ fn block_room(code: &[Block], frame: &Frame, world: &mut World) -> Result<(), Me
     }
 }
 
-fn make_block_room(env: &[Value], first: &[Term], count: &Term, world: &mut World) -> Result<(), Memory>
+fn make_block_room(
+    env: &[Value],
+    first: &[Term],
+    count: &Term,
+    world: &mut World,
+) -> Result<(), Memory>
     ensures same { shared world.new ≡ shared world.old }
     ensures first { OnOk result (length first.now ≤ vec_capacity world.new.first) }
     ensures block { OnOk result ((n : ℕ) → chain (eval_number env.now (plain_term count.now)) count_of ≡ Ok n → IsFields (length first.now) → world.new.heap.room ≡ Some (length first.now, n)) }
@@ -411,7 +420,10 @@ fn prepare(
         None => Ok(empty_frame(alloc)),
         Some(frame) => {
             block_room(code, frame, world)?;
-            spare_frame(alloc, function_at(functions, callee_at(code, frame.spots.as_slice())))
+            spare_frame(
+                alloc,
+                function_at(functions, callee_at(code, frame.spots.as_slice())),
+            )
         }
     }
 }

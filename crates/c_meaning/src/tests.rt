@@ -1,7 +1,9 @@
 ghost use Rattle.std.specs.Prelude.{◌<◌, length};
 
 use super::*;
-use c_syntax::{CCell, CExpr, CFun, CInit, CMember, COp, CParam, CProgram, CStmt, CStruct, CType, Local};
+use c_syntax::{
+    CCell, CExpr, CFun, CInit, CMember, COp, CParam, CProgram, CStmt, CStruct, CType, Local,
+};
 use pl_base::{Items, Memory, Name};
 use pl_resource::{Cell, Fault, Value};
 use std::alloc::Global;
@@ -32,7 +34,12 @@ fn list<T: Drop, const N: usize>(alloc: Global, items: [T; N]) -> Result<Items<T
     Ok(Items::of(Vec::from_array(alloc, items)?))
 }
 
-fn function(alloc: Global, name: &str, params: Items<CParam>, body: Items<CStmt>) -> Result<CFun, Memory> {
+fn function(
+    alloc: Global,
+    name: &str,
+    params: Items<CParam>,
+    body: Items<CStmt>,
+) -> Result<CFun, Memory> {
     Ok(CFun {
         name: Name::of(alloc, name)?,
         result: CType::Void,
@@ -143,7 +150,10 @@ fn racing(alloc: Global) -> Result<CProgram, Memory> {
             CStmt::Store(CCell::Whole(local(alloc, 1)?), int(1)),
         ],
     )?;
-    let second = list(alloc, [CStmt::Store(CCell::Whole(local(alloc, 1)?), int(2))])?;
+    let second = list(
+        alloc,
+        [CStmt::Store(CCell::Whole(local(alloc, 1)?), int(2))],
+    )?;
     let body = list(
         alloc,
         [
@@ -276,7 +286,14 @@ fn each_fault_comes(rt: HostRuntime) -> Result<(), Fail> {
     let made = CStmt::New(CType::PtrI64, local(alloc, 1)?, int(0));
     let next = faults(
         alloc,
-        list(alloc, [made, CStmt::Free(local(alloc, 1)?), CStmt::Free(local(alloc, 1)?)])?,
+        list(
+            alloc,
+            [
+                made,
+                CStmt::Free(local(alloc, 1)?),
+                CStmt::Free(local(alloc, 1)?),
+            ],
+        )?,
     )?;
     assert_eq!(rt; next, Next::Fault(Fault::Dead));
     let made = CStmt::New(CType::PtrI64, local(alloc, 1)?, int(0));
@@ -284,12 +301,18 @@ fn each_fault_comes(rt: HostRuntime) -> Result<(), Fail> {
     let next = faults(alloc, list(alloc, [made, far])?)?;
     assert_eq!(rt; next, Next::Fault(Fault::Outside));
     let made = CStmt::NewLock(local(alloc, 1)?);
-    let next = faults(alloc, list(alloc, [made, CStmt::Release(local(alloc, 1)?)])?)?;
+    let next = faults(
+        alloc,
+        list(alloc, [made, CStmt::Release(local(alloc, 1)?)])?,
+    )?;
     assert_eq!(rt; next, Next::Fault(Fault::LockFree));
     let made = CStmt::NewLock(local(alloc, 1)?);
     let held = CStmt::Acquire(local(alloc, 1)?);
     let ended = CStmt::Free(local(alloc, 1)?);
-    let next = faults(alloc, list(alloc, [made, held, ended, CStmt::Acquire(local(alloc, 1)?)])?)?;
+    let next = faults(
+        alloc,
+        list(alloc, [made, held, ended, CStmt::Acquire(local(alloc, 1)?)])?,
+    )?;
     assert_eq!(rt; next, Next::Fault(Fault::LockFreed));
     Ok(())
 }
@@ -326,7 +349,10 @@ fn fields_calls_swaps_and_reads(rt: HostRuntime) -> Result<(), Fail> {
             },
         ],
     )?;
-    let more = list(alloc, [CStmt::Return(bin(alloc, COp::Add, var(alloc, 1)?, int(1))?)])?;
+    let more = list(
+        alloc,
+        [CStmt::Return(bin(alloc, COp::Add, var(alloc, 1)?, int(1))?)],
+    )?;
     let param = CParam {
         local: local(alloc, 1)?,
         kind: CType::I64,
@@ -335,7 +361,11 @@ fn fields_calls_swaps_and_reads(rt: HostRuntime) -> Result<(), Fail> {
         alloc,
         [
             CStmt::NewStruct(local(alloc, 1)?, Name::of(alloc, "node")?, inits),
-            CStmt::Load(CType::Bool, local(alloc, 2)?, CCell::Field(local(alloc, 1)?, Name::of(alloc, "on")?)),
+            CStmt::Load(
+                CType::Bool,
+                local(alloc, 2)?,
+                CCell::Field(local(alloc, 1)?, Name::of(alloc, "on")?),
+            ),
             CStmt::NewAtomic(local(alloc, 3)?, int(4)),
             CStmt::Cas(local(alloc, 4)?, local(alloc, 3)?, int(5), int(6)),
             CStmt::Read(local(alloc, 5)?),

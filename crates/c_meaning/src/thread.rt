@@ -198,7 +198,12 @@ fn enter(code: &[Block], function: Option<Function>, spots: Vec<Spot>) -> Vec<Sp
 }
 
 // A function's frame, with its arguments in its locals.
-pub(crate) fn begin(code: &[Block], function: Option<Function>, spare: Frame, into: Option<u32>) -> Frame
+pub(crate) fn begin(
+    code: &[Block],
+    function: Option<Function>,
+    spare: Frame,
+    into: Option<u32>,
+) -> Frame
     requires table { IsTable code.now }
     requires empty { spare.spots.items ≡ [] }
     requires places { suc (nest (shown_or_none code.now function).body) ≤ vec_capacity spare.spots }
@@ -300,7 +305,15 @@ pub(crate) fn advance(
         env: mut locals,
         ..
     } = spare;
-    match event(code, &mut spots, &mut env, &mut child, world, &mut locals, next) {
+    match event(
+        code,
+        &mut spots,
+        &mut env,
+        &mut child,
+        world,
+        &mut locals,
+        next,
+    ) {
         Err(fault) => Err(fault),
         Ok((action, turn)) => {
             let now = Frame {

@@ -129,7 +129,12 @@ fn some_fields(first: &[Term]) -> bool
 }
 
 /// What a statement touches, or its fault. It changes nothing.
-pub(crate) fn touching(basic: &Basic, env: &[Value], child: Option<u32>, world: &World) -> Result<Touch, Fault>
+pub(crate) fn touching(
+    basic: &Basic,
+    env: &[Value],
+    child: Option<u32>,
+    world: &World,
+) -> Result<Touch, Fault>
     ensures { result ≡ touching (plain_basic basic.now) (record { env = env.now; child = child }) (shared world.now) }
 {
     let nothing = untouched();
@@ -138,31 +143,53 @@ pub(crate) fn touching(basic: &Basic, env: &[Value], child: Option<u32>, world: 
             let offset = offset_of(env, place)?;
             let cell = cell_at(env, place.base(), offset)?;
             may_load(&world.heap, cell, *atomic)?;
-            Ok(Touch { cell: Some(cell), atomic: *atomic, ..nothing })
+            Ok(Touch {
+                cell: Some(cell),
+                atomic: *atomic,
+                ..nothing
+            })
         }
         Basic::Store(place, e, atomic) => {
             let offset = offset_of(env, place)?;
             let v = evaluate(e, env)?;
             let cell = cell_at(env, place.base(), offset)?;
             may_store(&world.heap, cell, *atomic, v)?;
-            Ok(Touch { cell: Some(cell), writes: true, atomic: *atomic, ..nothing })
+            Ok(Touch {
+                cell: Some(cell),
+                writes: true,
+                atomic: *atomic,
+                ..nothing
+            })
         }
         Basic::Cas(_, base, old, new) => {
             let a = number(env, old)?;
             let b = number(env, new)?;
             let cell = cell_at(env, *base, Offset { index: 0, field: 0 })?;
             may_swap(&world.heap, cell, a, b)?;
-            Ok(Touch { cell: Some(cell), writes: true, atomic: true, ..nothing })
+            Ok(Touch {
+                cell: Some(cell),
+                writes: true,
+                atomic: true,
+                ..nothing
+            })
         }
         Basic::Make(_, _, first, count) => {
             sound_all(first.as_slice(), env)?;
             count_of(number(env, count)?)?;
-            if some_fields(first.as_slice()) { Ok(nothing) } else { Err(Fault::Kind) }
+            if some_fields(first.as_slice()) {
+                Ok(nothing)
+            } else {
+                Err(Fault::Kind)
+            }
         }
         Basic::Free(base) => match local(env, *base)? {
             Value::Block(block) => {
                 may_free(&world.heap, block)?;
-                Ok(Touch { block: Some(block), writes: true, ..nothing })
+                Ok(Touch {
+                    block: Some(block),
+                    writes: true,
+                    ..nothing
+                })
             }
             Value::Lock(lock) => {
                 may_end(&world.locks, lock)?;
@@ -174,7 +201,10 @@ pub(crate) fn touching(basic: &Basic, env: &[Value], child: Option<u32>, world: 
         Basic::Acquire(x) => {
             let lock = lock_of(env, *x)?;
             may_acquire(&world.locks, lock)?;
-            Ok(Touch { lock: Some(lock), ..nothing })
+            Ok(Touch {
+                lock: Some(lock),
+                ..nothing
+            })
         }
         Basic::Release(x) => {
             let lock = lock_of(env, *x)?;
@@ -192,10 +222,16 @@ pub(crate) fn touching(basic: &Basic, env: &[Value], child: Option<u32>, world: 
         }
         Basic::Fork(_, args) => {
             sound_all(args.as_slice(), env)?;
-            Ok(Touch { forks: true, ..nothing })
+            Ok(Touch {
+                forks: true,
+                ..nothing
+            })
         }
         Basic::Join => match child {
-            Some(thread) => Ok(Touch { child: Some(thread), ..nothing }),
+            Some(thread) => Ok(Touch {
+                child: Some(thread),
+                ..nothing
+            }),
             None => Err(Fault::Kind),
         },
         Basic::Return(e) => {

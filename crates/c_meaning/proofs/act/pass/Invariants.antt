@@ -1,7 +1,6 @@
 use Rattle.std.proofs.Common.{◌≡◌, ◌+◌, map, drop, vec_len}
-use Rattle.std.specs.Prelude.{vec_capacity}
 use Rattle.c_meaning.specs.Plain.{plain_term}
-use Rattle.c_meaning.specs.Values.{eval_onto, arguments}
+use Rattle.c_meaning.specs.Values.{arguments}
 use Rattle.c_meaning.proofs.act.pass.Given as goal
 
 abbrev pub invariant-loop-e : goal.invariant-loop-e

@@ -1,7 +1,6 @@
-use Rattle.std.proofs.Common.{rules, ◌≡◌, ◌+◌, sym, ap, ◌∙◌, subst, map, drop, drop_of_length-le}
+use Rattle.std.proofs.Common.{◌≡◌, ◌+◌, sym, ap, ◌∙◌, subst, drop, drop_of_length-le}
 use Rattle.c_meaning.specs.Tree.{end}
 use Rattle.c_syntax.specs.Plain.{plain_stmt, plain_stmts, plain_expr}
-use Rattle.c_meaning.specs.Plain.{plain_term}
 use Rattle.c_meaning.specs.Resolve.{resolved, term_of, last_of}
 use Rattle.c_meaning.specs.Compiled.{names_with}
 use Rattle.c_meaning.proofs.Folds.{plain_if, plain_while, step_in, flat_before, unbound_before}

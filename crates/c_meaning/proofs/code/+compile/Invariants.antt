@@ -1,4 +1,4 @@
-use Rattle.std.proofs.Common.{◌≡◌, drop, map}
+use Rattle.std.proofs.Common.{drop}
 use Rattle.c_syntax.specs.Plain.{plain_stmts}
 use Rattle.c_meaning.specs.Resolve.{resolved}
 use Rattle.c_meaning.specs.Compiled.{names_with}

@@ -1,11 +1,9 @@
-use Rattle.std.proofs.Common.{rules, ◌≡◌, ◌∷◌, ◌++◌, [], ℕ, sym, ap, ◌∙◌, subst, map, None}
+use Rattle.std.proofs.Common.{◌≡◌, ◌∷◌, ◌++◌, [], sym, ap, ◌∙◌, subst, map, None}
 use Rattle.c_meaning.specs.declared.code.Op.TheVariants as op
 use Rattle.c_meaning.specs.declared.term.Basic.TheVariants as b
 use Rattle.c_syntax.specs.Tree as tree
 use Rattle.c_syntax.specs.Plain.{plain_stmt, plain_expr}
-use Rattle.c_meaning.specs.Tree.{Fork, Call}
 use Rattle.c_meaning.specs.Resolve.{term_of}
-use Rattle.c_meaning.specs.Plain.{plain_basic}
 use Rattle.c_meaning.specs.Compiled.{names_with, Added}
 use Rattle.c_meaning.proofs.Tables.{added_par}
 use Rattle.c_meaning.proofs.Folds.{plain_par}

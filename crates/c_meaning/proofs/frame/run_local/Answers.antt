@@ -1,6 +1,6 @@
-use Rattle.std.proofs.Common.{rules, arith, ◌≡◌, ◌<◌, ◌≤◌, ◌+◌, ◌∷◌, ◌++◌, [], sym, ap, ◌∙◌, subst, vec_len, length}
+use Rattle.std.proofs.Common.{arith, ◌<◌, sym, ap, ◌∙◌, subst}
 use Rattle.std.specs.Prelude.{vec_capacity}
-use Rattle.c_meaning.specs.Blocks.{left, Kept, enters, ops_at, move_of, spots_after}
+use Rattle.c_meaning.specs.Blocks.{left, Kept, ops_at, move_of, spots_after}
 use Rattle.c_meaning.proofs.Lefts.{get_below}
 use Rattle.c_meaning.proofs.Runs.{turn_end, turn_room, turn_move, turn_rests, turn_less, Weight}
 use Rattle.c_meaning.proofs.frame.run_local.Goals as goal

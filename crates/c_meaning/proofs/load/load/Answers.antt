@@ -1,4 +1,4 @@
-use Rattle.std.proofs.Common.{rules, ◌≡◌, [], ◌∷◌, ◌++◌, ◌+◌, map, drop, sym, ap, ◌∙◌, subst, drop_of_length-le, length, ◌<◌, ◌≤◌}
+use Rattle.std.proofs.Common.{◌≡◌, ◌+◌, map, drop, sym, ap, ◌∙◌, subst, drop_of_length-le, length, ◌<◌, ◌≤◌}
 use Rattle.std.proofs.Math.ListN.{get_or}
 use Rattle.c_meaning.specs.Loads.{Loaded}
 use Rattle.c_meaning.proofs.Loading.{Loading, as_loaded, loads_one, loads_code, loads_all, functions_are, fun_in}

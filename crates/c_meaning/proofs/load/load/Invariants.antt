@@ -1,4 +1,4 @@
-use Rattle.std.proofs.Common.{◌≡◌, map, drop}
+use Rattle.std.proofs.Common.{map, drop}
 use Rattle.c_meaning.proofs.Loading.{Loading, as_loaded}
 use Rattle.c_meaning.proofs.load.load.Given as goal
 

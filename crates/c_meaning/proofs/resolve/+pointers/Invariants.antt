@@ -1,4 +1,4 @@
-use Rattle.std.proofs.Common.{◌≡◌, ◌+◌, ◌++◌, map, drop}
+use Rattle.std.proofs.Common.{◌≡◌, ◌++◌, drop}
 use Rattle.c_syntax.specs.Plain.{plain_stmts}
 use Rattle.c_meaning.specs.Resolve.{pointers_in}
 use Rattle.c_meaning.proofs.resolve.+pointers.Given as goal

@@ -1,4 +1,4 @@
-use Rattle.std.proofs.Common.{◌≡◌, ◌+◌, ◌++◌, map, drop}
+use Rattle.std.proofs.Common.{◌≡◌, ◌++◌, map, drop}
 use Rattle.c_syntax.specs.Plain.{plain_expr}
 use Rattle.c_meaning.specs.Plain.{plain_term}
 use Rattle.c_meaning.specs.Resolve.{term_of}

@@ -1,4 +1,4 @@
-use Rattle.std.proofs.Common.{◌≡◌, ◌+◌, ◌++◌, map, drop}
+use Rattle.std.proofs.Common.{◌≡◌, ◌+◌, map, drop}
 use Rattle.c_meaning.specs.Resolve.{place_of}
 use Rattle.c_meaning.proofs.resolve.struct_place.Given as goal
 

@@ -1,4 +1,4 @@
-use Rattle.std.proofs.Common.{◌≡◌, ◌+◌, ◌++◌, map, drop}
+use Rattle.std.proofs.Common.{◌≡◌, drop}
 use Rattle.c_meaning.specs.Resolve.{structure_of}
 use Rattle.c_meaning.proofs.resolve.structure_of.Given as goal
 

@@ -1,4 +1,4 @@
-use Rattle.std.proofs.Common.{rules, ◌≡◌, ◌++◌, ◌∷◌, [], Some, sym, ap, ◌∙◌, subst}
+use Rattle.std.proofs.Common.{◌++◌, ◌∷◌, [], sym, ap, ◌∙◌, subst}
 use Rattle.c_meaning.specs.States.{ThreadAdded}
 use Rattle.c_meaning.proofs.state.add_thread.Goals as goal
 

@@ -1,8 +1,7 @@
-use Rattle.std.proofs.Common.{rules, arith, ◌≡◌, ◌<◌, ◌++◌, ◌∷◌, [], ℕ, Some, Ok, Err, length, map, slice_get, slice_set, sym, ap, ◌∙◌, subst}
+use Rattle.std.proofs.Common.{rules, ◌≡◌, ◌++◌, Some, Ok, Err, length, map, sym, ap, ◌∙◌, subst}
 use Rattle.c_meaning.specs.Acts.{shared}
-use Rattle.c_meaning.specs.Machine.{AllFit, functions_shown, frames_shown, moved_of, fork_shown, Moved}
-use Rattle.c_meaning.specs.Events.{State, Thread}
-use Rattle.c_meaning.specs.States.{thread_shown, ThreadsFit, HasRoom, frames_at}
+use Rattle.c_meaning.specs.Machine.{functions_shown, frames_shown, moved_of, fork_shown, Moved}
+use Rattle.c_meaning.specs.States.{thread_shown, ThreadsFit, frames_at}
 use Rattle.c_meaning.proofs.StateEvents.{put_back, get_shown, set_shown, fit_get, fit_set, fit_added, shown_added, length_map, moved_event, moved_enabled}
 use Rattle.c_meaning.proofs.Counts.{few_of}
 use Rattle.c_meaning.proofs.state.advance_thread.Goals as goal

@@ -1,4 +1,4 @@
-use Rattle.std.proofs.Common.{rules, ◌≡◌, List, ℕ, sym, ap, ◌∙◌, subst}
+use Rattle.std.proofs.Common.{ap, ◌∙◌, subst}
 use Rattle.c_meaning.specs.Blocks.{left}
 use Rattle.c_meaning.specs.Plain.{plain_basic}
 use Rattle.c_meaning.specs.Acts.{shared}

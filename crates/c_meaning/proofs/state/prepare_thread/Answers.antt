@@ -1,8 +1,6 @@
-use Rattle.std.proofs.Common.{rules, arith, ◌≡◌, ◌<◌, ◌++◌, ◌∷◌, [], ℕ, Some, Ok, Err, length, map, slice_get, slice_set, sym, ap, ◌∙◌, subst}
-use Rattle.c_meaning.specs.Acts.{shared}
-use Rattle.c_meaning.specs.Machine.{AllFit, functions_shown, frames_shown, moved_of, fork_shown, Moved}
-use Rattle.c_meaning.specs.Events.{State, Thread}
-use Rattle.c_meaning.specs.States.{thread_shown, ThreadsFit, HasRoom, frames_at}
+use Rattle.std.proofs.Common.{map, slice_get, sym, ap, ◌∙◌, subst}
+use Rattle.c_meaning.specs.Machine.{AllFit, functions_shown}
+use Rattle.c_meaning.specs.States.{thread_shown, ThreadsFit, HasRoom}
 use Rattle.c_meaning.proofs.StateEvents.{put_back, shown_same, fit_get, fit_set, get_set}
 use Rattle.c_meaning.proofs.state.prepare_thread.Goals as goal
 

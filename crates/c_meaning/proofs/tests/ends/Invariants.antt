@@ -1,4 +1,4 @@
-use Rattle.std.proofs.Common.{◌≡◌, ◌≤◌, ◌+◌, length}
+use Rattle.std.proofs.Common.{◌≤◌, ◌+◌, length}
 use Rattle.c_syntax.specs.Plain.{plain_program}
 use Rattle.c_meaning.specs.States.{shown, IsFor}
 use Rattle.c_meaning.proofs.tests.ends.Given as goal

@@ -1,4 +1,4 @@
-use Rattle.std.proofs.Common.{rules, ◌≡◌, sym, ap, ◌∙◌, subst}
+use Rattle.std.proofs.Common.{subst}
 use Rattle.c_meaning.specs.Machine.{AllFit}
 use Rattle.c_meaning.proofs.Threads.{fit_front}
 use Rattle.c_meaning.proofs.thread.advance.Goals as goal

@@ -1,4 +1,4 @@
-use Rattle.std.proofs.Common.{rules, arith, ◌≡◌, ◌≤◌, ◌∙◌, sym}
+use Rattle.std.proofs.Common.{arith, sym}
 use Rattle.c_meaning.proofs.FrameEvents.{looks_on, stands_at}
 use Rattle.c_meaning.proofs.thread.current.Goals as goal
 

@@ -1,10 +1,10 @@
-use Rattle.std.proofs.Common.{rules, arith, ◌≡◌, ◌<◌, ◌≤◌, ◌+◌, ◌∷◌, ◌++◌, [], sym, ap, ◌∙◌, subst, vec_len, length}
+use Rattle.std.proofs.Common.{arith, ◌≡◌, ◌∷◌, ◌++◌, [], sym, ap, ◌∙◌, subst}
 use Rattle.std.specs.Prelude.{vec_capacity}
 use Rattle.c_meaning.specs.Values.{eval}
 use Rattle.c_meaning.specs.Plain.{plain_term}
 use Rattle.c_meaning.specs.Events.{faulted}
-use Rattle.c_meaning.specs.Blocks.{fits, first, next}
-use Rattle.c_meaning.specs.Acts.{shared, turn_of}
+use Rattle.c_meaning.specs.Blocks.{fits, first}
+use Rattle.c_meaning.specs.Acts.{shared}
 use Rattle.c_meaning.proofs.FrameEvents.{checking, below, one_room, two_room, past_fits, turn_fits, do_room, do_faults, do_steps, let_faults, if_faults, test_faults, turn_steps}
 use Rattle.c_meaning.proofs.thread.event.Goals as goal
 

@@ -1,4 +1,4 @@
-use Rattle.std.proofs.Common.{rules, ◌≡◌, ◌∙◌}
+use Rattle.std.proofs.Common.{◌∙◌}
 use Rattle.std.specs.Prelude.{vec_capacity}
 use Rattle.c_meaning.proofs.FrameEvents.{end_goes}
 use Rattle.c_meaning.proofs.thread.take_place.Goals as goal

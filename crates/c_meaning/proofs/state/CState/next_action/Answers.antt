@@ -1,4 +1,4 @@
-use Rattle.std.proofs.Common.{rules, ◌≡◌, length, map, sym, ap, ◌∙◌, subst, slice_get}
+use Rattle.std.proofs.Common.{◌≡◌, length, map, ap, ◌∙◌, subst, slice_get}
 use Rattle.c_meaning.specs.Acts.{shared}
 use Rattle.c_meaning.specs.Events.{next_of, next_by, atomic_at, event_of_frame}
 use Rattle.c_meaning.specs.Machine.{functions_shown, frame_shown}

@@ -1,4 +1,4 @@
-use Rattle.std.proofs.Common.{rules, ◌≡◌, map, sym, ap, ◌∙◌, subst}
+use Rattle.std.proofs.Common.{◌≡◌, map, ap, ◌∙◌, subst}
 use Rattle.c_meaning.specs.Acts.{shared}
 use Rattle.c_meaning.specs.Resolve.{place_of}
 use Rattle.c_meaning.specs.Machine.{functions_shown}

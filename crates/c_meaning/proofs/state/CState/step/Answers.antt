@@ -1,4 +1,4 @@
-use Rattle.std.proofs.Common.{rules, ◌≡◌, sym, ap, ◌∙◌, subst, slice_get}
+use Rattle.std.proofs.Common.{sym, ap, ◌∙◌, subst, slice_get}
 use Rattle.c_meaning.specs.Machine.{functions_shown}
 use Rattle.c_meaning.specs.States.{HasRoom}
 use Rattle.c_meaning.proofs.state.CState.step.Goals as goal
