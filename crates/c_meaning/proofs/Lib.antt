@@ -1,0 +1,15 @@
+pub mod Lefts
+pub mod Moves
+pub mod Settles
+pub mod Rooms
+pub mod Runs
+pub mod Tables
+pub mod Folds
+pub mod Held
+pub mod FrameEvents
+pub mod Threads
+pub mod Touched
+pub mod StateEvents
+pub mod Loading
+pub mod Counts
+pub mod Crossing

@@ -1,0 +1,17 @@
+pub mod Tree
+pub mod Plain
+pub mod Values
+pub mod Resolve
+pub mod Local
+pub mod Blocks
+pub mod Compiled
+pub mod Effects
+pub mod Acts
+pub mod Rooms
+pub mod Touches
+pub mod Touching
+pub mod Events
+pub mod Steps
+pub mod Machine
+pub mod States
+pub mod Loads
