@@ -5,3 +5,4 @@ pub mod Shown
 pub mod Permission
 pub mod Fraction
 pub mod Mangling
+pub mod Tokens

@@ -8,6 +8,7 @@ mod outside;
 mod perm;
 mod pos;
 mod store;
+mod token;
 
 pub use items::Items;
 pub use memory_host::{MemoryHost, SteadyHost};
@@ -16,6 +17,7 @@ pub use outside::{Gate, Host, HostError, HostFailed, NullGate, TakeError};
 pub use perm::{Perm, SumError, TooFine};
 pub use pos::{Memory, Pos};
 pub use store::HostFile;
+pub use token::{Kind, Token};
 
 #[cfg(test)]
 mod tests;

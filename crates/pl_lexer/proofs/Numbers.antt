@@ -12,7 +12,8 @@ use Rattle.std.proofs.lemmas.Slice.Eq.{bytes_eq-Decides}
 use Rattle.std.proofs.lemmas.Str.{encodes-IsAscii, encodes_same}
 use Rattle.std.proofs.lemmas.Str.Ascii.{IsAscii-from_all}
 use Rattle.pl_readers.specs.Reader.{begins}
-use Rattle.pl_lexer.specs.Lexemes.{is_start, symbols, words}
+use Rattle.pl_base.specs.Tokens.{words}
+use Rattle.pl_lexer.specs.Lexemes.{is_start, symbols}
 use Rattle.pl_lexer.specs.Tokens.{sign_number}
 use Rattle.pl_lexer.proofs.Symbols.{of_each, first_of}
 use Rattle.pl_lexer.proofs.Longest.{start_ascii}

@@ -11,7 +11,8 @@ use Rattle.unicode_ident.proofs.IdentLemmas.{is_xid_continue-ascii}
 use Rattle.pl_readers.specs.Reader.{begins}
 use Rattle.pl_lexer.specs.declared.tokens.Kind.{Kind}
 use Rattle.pl_lexer.specs.declared.tokens.Kind.TheVariants as k
-use Rattle.pl_lexer.specs.Lexemes.{is_more, signs, symbols, words, IsIdentifier}
+use Rattle.pl_base.specs.Tokens.{words}
+use Rattle.pl_lexer.specs.Lexemes.{is_more, signs, symbols, IsIdentifier}
 use Rattle.pl_lexer.specs.Tokens.{Cut, start, place_behind, sign_number, is_gap, kind_of, sign_or_name, all_tokens, IsLongNumber, IsLongName, AllShort, Lexed, IsLexed, mangled_len}
 use Rattle.pl_lexer.specs.Printing.{IsPiece, is_apart, AreApart}
 use Rattle.pl_lexer.specs.Proper.{IsName}

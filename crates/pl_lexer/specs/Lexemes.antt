@@ -2,6 +2,7 @@
 use Rattle.std.specs.Prelude.{◌≡◌, ◌≢◌, ℕ, ◌⊎◌, ◌||◌, ◌==◌, not, true, Bool, List, [], ◌∷◌, ◌++◌, Contains, codes}
 use Rattle.std.specs.Char.{is_ascii_digit}
 use Rattle.std.specs.List.{list_all}
+use Rattle.pl_base.specs.Tokens.{words}
 use Rattle.unicode_ident.specs.Ident.{is_xid_start, is_xid_continue}
 
 -- space, tab, CR and LF
@@ -26,20 +27,6 @@ symbols =
     codes "(" ∷ codes ")" ∷ codes "{" ∷ codes "}" ∷ codes "[" ∷ codes "]" ∷ codes "," ∷ codes ";" ∷ codes ":" ∷ codes "." ∷
     codes "#" ∷ codes "=" ∷ codes ":=" ∷ codes "|->" ∷ codes "**" ∷ codes "+" ∷ codes "-" ∷ codes "*" ∷ codes "/" ∷ codes "%" ∷
     codes "<" ∷ codes "<=" ∷ codes ">" ∷ codes ">=" ∷ codes "==" ∷ codes "!=" ∷ codes "&&" ∷ codes "||" ∷ codes "==>" ∷ codes "!" ∷ []
-
--- the words, whose numbers follow
-abbrev pub words : List (List ℕ)
-words =
-    codes "struct" ∷ codes "pred" ∷ codes "ghost" ∷ codes "fn" ∷ codes "opens" ∷ codes "requires" ∷ codes "returns" ∷ codes "ensures" ∷
-    codes "decreases" ∷ codes "let" ∷ codes "mut" ∷ codes "if" ∷ codes "else" ∷ codes "while" ∷ codes "invariant" ∷ codes "with" ∷
-    codes "with_invariants" ∷ codes "assert" ∷ codes "by" ∷ codes "return" ∷ codes "par" ∷ codes "not" ∷ codes "true" ∷ codes "false" ∷
-    codes "null" ∷ codes "emp" ∷ codes "pure" ∷ codes "exists" ∷ codes "slice" ∷ codes "block" ∷ codes "lock_alive" ∷ codes "lock_held" ∷
-    codes "inv" ∷ codes "fold" ∷ codes "unfold" ∷ codes "rewrite" ∷ codes "as" ∷ codes "share" ∷ codes "gather" ∷ codes "split" ∷
-    codes "join" ∷ codes "at" ∷ codes "focus" ∷ codes "unfocus" ∷ codes "drop_" ∷ codes "alloc" ∷ codes "alloc_array" ∷
-    codes "alloc_atomic" ∷ codes "new" ∷ codes "free" ∷ codes "free_array" ∷ codes "new_lock" ∷ codes "acquire" ∷ codes "release" ∷
-    codes "free_lock" ∷ codes "read" ∷ codes "print" ∷ codes "atomic_read" ∷ codes "atomic_write" ∷ codes "cas" ∷ codes "galloc" ∷
-    codes "new_invariant" ∷ codes "i64" ∷ codes "bool" ∷ codes "ref" ∷ codes "atomic" ∷ codes "lock" ∷ codes "int" ∷ codes "perm" ∷
-    codes "gref" ∷ codes "iname" ∷ []
 
 -- the signs: the symbols, and then the words
 abbrev pub signs : List (List ℕ)

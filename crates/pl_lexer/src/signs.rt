@@ -3,7 +3,8 @@
 ghost use Rattle.std.specs.Prelude.{◌≡◌, ◌<◌, ◌+◌, length, position, option_map, IfSome, encode_utf8_all};
 ghost use Rattle.std.specs.Str.{bytes_eq};
 ghost use Rattle.pl_readers.specs.Reader as read;
-ghost use Rattle.pl_lexer.specs.Lexemes.{is_start, symbols, words};
+ghost use Rattle.pl_base.specs.Tokens.{words};
+ghost use Rattle.pl_lexer.specs.Lexemes.{is_start, symbols};
 ghost use Rattle.pl_lexer.specs.Tokens as spec;
 
 use crate::scan::is_start;

@@ -4,3 +4,4 @@ pub mod Sorts
 pub mod Values
 pub mod Resource
 pub mod Holds
+pub mod Grammar

@@ -4,10 +4,10 @@ use lib.Chars.{codes}
 use Rattle.std.proofs.lemmas.List.{append_assoc, append-nil, length-append}
 use Rattle.pl_base.specs.declared.pos.Pos.{Pos}
 use Rattle.pl_syntax.specs.Tree.{Stmt, Program, Function}
-use Rattle.pl_top.specs.declared.token.Token.{Token}
+use Rattle.pl_base.specs.declared.token.Token.{Token}
 use Rattle.pl_top.specs.declared.parsing.Stop.{Stop}
 use Rattle.pl_top.specs.declared.parsing.Stop.TheVariants as stop
-use Rattle.pl_top.specs.Grammar.{word, sign, IsStatement, is_load, is_alloc, is_free, is_print, IsProgram}
+use Rattle.pl_syntax.specs.Grammar.{word, sign, IsStatement, is_load, is_alloc, is_free, is_print, IsProgram}
 use Rattle.pl_top.specs.Forms.{next, Fails, FailsBody, FailsProgram, word_at, sign_at, begins_sign, statement_at, header_at, end_of, end_at, IsBody, GoesOn, IsOnlyBody}
 use Rattle.pl_top.proofs.Sentences.{some_is, next_some, word_found, sign_found, statement_found, statement_taken}
 

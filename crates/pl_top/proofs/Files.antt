@@ -5,8 +5,8 @@ use Rattle.pl_syntax.specs.declared.program.Program as program
 use Rattle.pl_syntax.specs.Tree.{Program}
 use Rattle.pl_syntax.specs.Plain.{plain_program}
 use Rattle.pl_syntax.specs.Sorts.{IsTyped}
-use Rattle.pl_top.specs.declared.token.Token.{Token}
-use Rattle.pl_top.specs.Grammar.{IsProgram, IsFile}
+use Rattle.pl_base.specs.declared.token.Token.{Token}
+use Rattle.pl_syntax.specs.Grammar.{IsProgram, IsFile}
 use Rattle.pl_top.specs.Leads.{SpellsOnly}
 use Rattle.pl_top.specs.Forms.{IsParsed, NotParsed}
 use Rattle.pl_top.specs.Reading.{IsReadAs}

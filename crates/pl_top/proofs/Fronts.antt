@@ -4,10 +4,10 @@ use Rattle.std.specs.List.{list_all}
 use Rattle.std.proofs.lemmas.Bool.{and_parts, and_from, or_left, or_cases, eqb-true, agree_below_at}
 use Rattle.std.proofs.lemmas.List.{append_assoc, append-nil}
 use Rattle.pl_base.specs.declared.pos.Pos.{Pos}
-use Rattle.pl_top.specs.declared.token.Token.{Token}
-use Rattle.pl_top.specs.declared.token.Kind.{Kind}
-use Rattle.pl_top.specs.declared.token.Kind.TheVariants.{Word, Number, Sign}
-use Rattle.pl_top.specs.Spelling.{is_blank, is_digit, is_letter, is_word_byte, is_sign, next_place, place_behind, digits_onto, IsWord, IsNumber, IsTokenText, begins, EndsBefore, Spells, first_place}
+use Rattle.pl_base.specs.declared.token.Token.{Token}
+use Rattle.pl_base.specs.declared.token.Kind.{Kind}
+use Rattle.pl_base.specs.declared.token.Kind.TheVariants.{Word, Number, Sign}
+use Rattle.pl_base.specs.Tokens.{is_blank, is_digit, is_letter, is_word_byte, is_sign, next_place, place_behind, digits_onto, IsWord, IsNumber, IsTokenText, begins, EndsBefore, Spells, first_place}
 use Rattle.pl_top.specs.Leads.{Leads, IsFront, NoFront, NoneSpelled, SpellsOnly}
 use Rattle.pl_top.proofs.Runs.{runs_agree, is_low, letter_low, digit_low}
 

@@ -6,10 +6,10 @@ use Rattle.pl_syntax.specs.Tree.{Fun, Decl, Function, Program}
 use Rattle.pl_syntax.specs.Sorts.{IsTyped, IsMain}
 use Rattle.pl_walk.specs.declared.walk.Duty.{Duty}
 use Rattle.pl_walk.specs.Walk.{Undone, AllDone}
-use Rattle.pl_walk.proofs.GoodLaws.{good}
+use Rattle.pl_laws.proofs.GoodLaws.{good}
 use Rattle.pl_walk.proofs.WalkLaws.{all_done_derives}
 use Rattle.pl_top.specs.Lines.{accepted, not_built, duty_line}
-use Rattle.pl_top.specs.Grammar.{IsFile}
+use Rattle.pl_syntax.specs.Grammar.{IsFile}
 use Rattle.pl_top.specs.Judging.{program_of, IsFileOf, JudgesMain, all_done, one_undone, JudgesBytes, is_accepted, is_undone, is_not_built}
 
 -- what follows of each Ok follows of this one

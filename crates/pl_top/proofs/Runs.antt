@@ -7,7 +7,7 @@ use Rattle.std.proofs.lemmas.Bool.{and_parts, and_from, or_cases, leb-true, eqb-
 use Rattle.std.proofs.lemmas.List.Sums.{take_while-cons}
 use Rattle.std.proofs.lemmas.Str.{IsUtf8-from_ascii}
 use Rattle.std.proofs.lemmas.Str.Ascii.{IsAscii-nil, IsAscii-cons}
-use Rattle.pl_top.specs.Spelling.{begins, is_letter, is_digit, is_word_byte, digits_onto}
+use Rattle.pl_base.specs.Tokens.{begins, is_letter, is_digit, is_word_byte, digits_onto}
 
 pub is_low : (b n : ℕ) → (b == n) ≡ true → n < 128 → b < 128
 is_low b n e h = omega (arith, eqb-true b n e, h)

@@ -7,10 +7,10 @@ use Rattle.std.proofs.lemmas.List.{append_assoc}
 use Rattle.std.proofs.lemmas.Slice.Eq.{bytes_eq-Decides}
 use Rattle.pl_base.specs.declared.pos.Pos.{Pos}
 use Rattle.pl_syntax.specs.Tree.{Name, Expr, Int, Var, Whole, Stmt, Load, Alloc, Free, Print}
-use Rattle.pl_top.specs.declared.token.Token.{Token}
-use Rattle.pl_top.specs.declared.token.Kind.{Kind}
-use Rattle.pl_top.specs.declared.token.Kind.TheVariants.{Word, Number, Sign}
-use Rattle.pl_top.specs.Grammar.{IsName, word, sign, number, negative, IsValue, is_number, is_negative, is_name, IsStatement, is_load, is_alloc, is_free, is_print}
+use Rattle.pl_base.specs.declared.token.Token.{Token}
+use Rattle.pl_base.specs.declared.token.Kind.{Kind}
+use Rattle.pl_base.specs.declared.token.Kind.TheVariants.{Word, Number, Sign}
+use Rattle.pl_syntax.specs.Grammar.{IsName, word, sign, number, negative, IsValue, is_number, is_negative, is_name, IsStatement, is_load, is_alloc, is_free, is_print}
 use Rattle.pl_top.specs.Forms.{next, is_reserved, is_word, is_sign, word_at, sign_at, begins_sign, name_of, name_at, number_of, number_at, value_of, value_at, closed_at, value_in_brackets, load_at, alloc_at, let_at, free_at, print_at, statement_at}
 
 pub some_is : {A : Type 0} (x y : A) → Some x ≡ Some y → x ≡ y

@@ -5,13 +5,13 @@ use Rattle.std.specs.Str.{bytes_eq}
 use lib.Chars.{codes}
 use Rattle.pl_base.specs.declared.pos.Pos.{Pos}
 use Rattle.pl_syntax.specs.Tree.{Name, Expr, Int, Var, Whole, Stmt, Load, Alloc, Free, Print, Program}
-use Rattle.pl_top.specs.declared.token.Token.{Token}
-use Rattle.pl_top.specs.declared.token.Kind.{Kind}
-use Rattle.pl_top.specs.declared.token.Kind.TheVariants.{Word, Number, Sign}
+use Rattle.pl_base.specs.declared.token.Token.{Token}
+use Rattle.pl_base.specs.declared.token.Kind.{Kind}
+use Rattle.pl_base.specs.declared.token.Kind.TheVariants.{Word, Number, Sign}
 use Rattle.pl_top.specs.declared.parsing.Stop.{Stop}
 use Rattle.pl_top.specs.declared.parsing.Stop.TheVariants as stop
-use Rattle.pl_top.specs.Spelling.{first_place, Spells}
-use Rattle.pl_top.specs.Grammar.{words, negative, sign, AreStatements, IsProgram}
+use Rattle.pl_base.specs.Tokens.{words, first_place, Spells}
+use Rattle.pl_syntax.specs.Grammar.{negative, sign, AreStatements, IsProgram}
 
 -- one step after the other
 abbrev pub next : {A B : Type 0} → Option A → (A → Option B) → Option B

@@ -4,8 +4,8 @@ use Rattle.pl_base.specs.declared.pos.Pos.{Pos}
 use Rattle.pl_syntax.specs.Tree.{Fun, Function, Program}
 use Rattle.pl_walk.specs.declared.walk.Duty.{Duty}
 use Rattle.pl_walk.specs.Walk.{Undone, AllDone}
-use Rattle.pl_walk.specs.Good.{Good}
-use Rattle.pl_top.specs.Grammar.{IsFile}
+use Rattle.pl_source.specs.Good.{Good}
+use Rattle.pl_syntax.specs.Grammar.{IsFile}
 use Rattle.pl_top.specs.Telling.{Given, whole, long}
 use Rattle.pl_top.specs.Lines.{accepted, not_built, limit_file, duty_line}
 

@@ -1,9 +1,9 @@
 -- How tokens come off the front of a text, one after the other.
 use Rattle.std.specs.Prelude.{◌≡◌, ℕ, ◌+◌, ◌<◌, ◌^◌, List, ◌++◌, length}
 use Rattle.pl_base.specs.declared.pos.Pos.{Pos}
-use Rattle.pl_top.specs.declared.token.Token.{Token}
-use Rattle.pl_top.specs.declared.token.Kind.{Kind}
-use Rattle.pl_top.specs.Spelling.{Spells, IsTokenText, EndsBefore, first_place}
+use Rattle.pl_base.specs.declared.token.Token.{Token}
+use Rattle.pl_base.specs.declared.token.Kind.{Kind}
+use Rattle.pl_base.specs.Tokens.{Spells, IsTokenText, EndsBefore, first_place}
 
 -- from p on, the text spells these tokens and then what the rest spells from q on
 pub record Leads (p : Pos) (text : List ℕ) (tokens : List Token) (q : Pos) (rest : List ℕ) : Type 0 where

@@ -1,5 +1,3 @@
-pub mod Spelling
-pub mod Grammar
 pub mod Words
 pub mod Telling
 pub mod Lines

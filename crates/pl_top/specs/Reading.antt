@@ -3,7 +3,7 @@ use Rattle.std.specs.Prelude.{◌≡◌, ℕ, List, Option, Some, None}
 use Rattle.pl_syntax.specs.declared.program.Program as program
 use Rattle.pl_syntax.specs.Tree.{Program}
 use Rattle.pl_syntax.specs.Plain.{plain_program}
-use Rattle.pl_top.specs.Grammar.{IsFile}
+use Rattle.pl_syntax.specs.Grammar.{IsFile}
 
 -- the file's one program, or nothing where the bytes are no file of the small grammar
 abbrev pub IsReadAs : List ℕ → Option program.Program → Type 0

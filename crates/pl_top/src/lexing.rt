@@ -1,12 +1,11 @@
 // Tokens from bytes.
 ghost use Rattle.std.specs.Prelude.{◌≡◌, ◌<◌, ◌≤◌, ◌+◌, ◌^◌, ◌++◌, ◌∷◌, [], true, false, IfOk, MatchOption, length};
 ghost use Rattle.std.specs.List.{list_all, prefix_len};
-ghost use Rattle.pl_top.specs.Spelling as spelling;
+ghost use Rattle.pl_base.specs.Tokens as spelling;
 ghost use Rattle.pl_top.specs.Leads.{Leads, IsFront, NoFront, HasRoom, NoneSpelled, SpellsOnly};
-ghost use Rattle.pl_top.specs.declared.token.Token.{Token};
+ghost use Rattle.pl_base.specs.declared.token.Token.{Token};
 
-use crate::token::{Kind, Token};
-use pl_base::{Memory, Name, Pos};
+use pl_base::{Kind, Memory, Name, Pos, Token};
 use std::alloc::Global;
 
 /// The largest number of a token.

@@ -8,11 +8,9 @@ mod lines;
 mod parsing;
 mod reading;
 mod sorting;
-mod token;
 mod top;
 mod words;
 
-pub use token::{Kind, Token};
 pub use top::{check_command, pulse_main};
 pub use words::{Command, Usage, UsageKind, WordError, read_words};
 

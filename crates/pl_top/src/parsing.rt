@@ -6,8 +6,7 @@ ghost use Rattle.pl_syntax.specs.Plain.{plain_expr, plain_stmt, plain_program};
 ghost use Rattle.pl_top.specs.Forms as form;
 ghost use Rattle.pl_top.specs.Forms.{Gives, ReadsBody, ReadsProgram};
 
-use crate::token::{Kind, Token};
-use pl_base::{Items, Memory, Name, Pos};
+use pl_base::{Items, Kind, Memory, Name, Pos, Token};
 use pl_syntax::{CellExpr, Decl, Expr, FunDecl, Program, Stmt, Stmts};
 use std::alloc::{AllocFailed, Global};
 

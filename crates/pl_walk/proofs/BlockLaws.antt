@@ -5,13 +5,13 @@ use Rattle.std.proofs.lemmas.List.Elements.{All-nil, All-cons, All-append}
 use Rattle.std.proofs.lemmas.Bool.{cases_eq}
 use Rattle.std.proofs.lemmas.List.{length-map, map-append}
 use Rattle.pl_base.specs.Permission.{whole}
-use Rattle.pl_walk.specs.declared.known.Term.{Term}
-use Rattle.pl_walk.specs.declared.known.Term.TheVariants.{Literal, Variable}
+use Rattle.pl_terms.specs.declared.term.Term.{Term}
+use Rattle.pl_terms.specs.declared.term.Term.TheVariants.{Literal, Variable}
 use Rattle.pl_walk.specs.declared.known.Block as block
-use Rattle.pl_walk.specs.Terms.{Atom, Points, Block}
+use Rattle.pl_terms.specs.Terms.{Atom, Points, Block}
 use Rattle.pl_walk.specs.Walk.{PointsTo, PointsWhole, BlockOf, NoneOf}
 use Rattle.pl_walk.specs.Blocks.{IsFirst, IsFreed}
-use Rattle.pl_walk.specs.Rules.{Names, Known, put, allocated}
+use Rattle.pl_terms.specs.Table.{Names, Known, put, allocated}
 use Rattle.pl_walk.specs.Shown.{block_atoms, atoms_from}
 
 same_variable : {k j : ℕ} → Variable k ≡ Variable j → k ≡ j

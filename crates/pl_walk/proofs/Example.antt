@@ -1,19 +1,17 @@
 -- A program whose duties are all done, and two that leave one undone: the premises of the laws can be met.
-use Rattle.std.proofs.Common.{◌≡◌, ℕ, pos, false, List, [], ◌∷◌, ◌++◌, refl, sym, ap, ap₂, inl, inr, rules, arith}
+use Rattle.std.proofs.Common.{◌≡◌, ℕ, pos, false, List, [], ◌∷◌, ◌++◌, refl, sym, ap, ap₂, inl, inr, arith}
 use lib.Chars.{codes}
 use Rattle.std.specs.Fmt.{digits, decimal}
 use Rattle.pl_base.specs.declared.pos.Pos.{Pos}
 use Rattle.pl_base.specs.Permission.{whole}
 use Rattle.pl_syntax.specs.Tree.{Name, Int, Var, Whole, Stmt, Load, Alloc, Free, Print, Fun}
-use Rattle.pl_syntax.specs.Sorts.{IsMain}
-use Rattle.pl_walk.specs.declared.known.Term.TheVariants.{Literal, Variable}
-use Rattle.pl_walk.specs.Terms.{Block}
-use Rattle.pl_walk.specs.Rules.{Known, start, allocated, put, Derives}
+use Rattle.pl_terms.specs.declared.term.Term.TheVariants.{Literal, Variable}
+use Rattle.pl_terms.specs.Terms.{Block}
+use Rattle.pl_terms.specs.Table.{Known, start, allocated, put}
+use Rattle.pl_deriv.specs.Derivations.{Derives}
 use Rattle.pl_walk.specs.declared.walk.Duty.TheVariants.{Missing, Leftover}
 use Rattle.pl_walk.specs.Walk.{WalksLoad, WalksFree, Walks, atoms_text, Undone, AllDone}
-use Rattle.pl_walk.specs.Good.{Good}
 use Rattle.pl_walk.proofs.WalkLaws.{all_done_derives}
-use Rattle.pl_walk.proofs.GoodLaws.{good}
 
 -- the name of the cell
 abbrev pub r : Name
@@ -42,10 +40,6 @@ main_of list = record { pos = at 1; name = codes "main"; body = record { list = 
 -- it frees what it allocates
 abbrev pub main : Fun
 main = main_of (prints ++ frees 5 ∷ [])
-
--- it keeps the sort rules
-pub is_main : IsMain main
-is_main = (refl, (search rules, (refl, refl, (refl, (refl, tt)))))
 
 -- what is known before the free
 abbrev pub loaded : Known
@@ -96,10 +90,6 @@ done = record { end = freed; walks = walks_main; none_left = refl }
 -- so the program derives
 pub derives : Derives main
 derives = all_done_derives main done
-
--- and is good
-pub is_good : Good main
-is_good = good main is_main derives
 
 -- a second free is refused: `6:3: missing r |-> _`
 pub second_free : Undone (main_of (prints ++ frees 5 ∷ frees 6 ∷ [])) (at 6) (Missing (codes "r |-> _"))

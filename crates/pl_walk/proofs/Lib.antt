@@ -2,9 +2,5 @@ pub mod BlockLaws
 pub mod NameLaws
 pub mod Reaching
 pub mod TextLaws
-pub mod HeapLaws
-pub mod AtomLaws
-pub mod StepLaws
-pub mod GoodLaws
 pub mod WalkLaws
 pub mod Example

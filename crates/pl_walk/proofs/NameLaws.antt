@@ -4,8 +4,8 @@ use mathlib.Core.Path.{fun_ext}
 use Rattle.std.proofs.lemmas.Cmp.{nat_list_eq_equiv}
 use Rattle.std.specs.Str.{bytes_eq}
 use Rattle.std.specs.Prelude.{Result, Ok, Err, OnOk}
-use Rattle.pl_walk.specs.declared.known.Term.{Term}
-use Rattle.pl_walk.specs.Rules.{Names, put}
+use Rattle.pl_terms.specs.declared.term.Term.{Term}
+use Rattle.pl_terms.specs.Table.{Names, put}
 
 -- a look-up that changed at one name alone
 pub put_is : (x : List ℕ) (t : Term) (names names' : Names) → ((y : List ℕ) → names' y ≡ cond (bytes_eq x y) (Some t) (names y)) → names' ≡ put x t names

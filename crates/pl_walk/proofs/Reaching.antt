@@ -14,11 +14,11 @@ use Rattle.pl_syntax.specs.declared.expr.Sort.{Sort}
 use Rattle.pl_syntax.specs.declared.expr.Sort.TheVariants.{I64, RefI64}
 use Rattle.pl_syntax.specs.Tree.{Name, Expr, Int, Var, CellExpr, Whole, Stmt, Load, Alloc, Free, Print}
 use Rattle.pl_syntax.specs.Sorts.{Scope, sort_of, IsInteger, IsCell, AreSorted}
-use Rattle.pl_walk.specs.declared.known.Term.{Term}
-use Rattle.pl_walk.specs.declared.known.Term.TheVariants.{Literal}
+use Rattle.pl_terms.specs.declared.term.Term.{Term}
+use Rattle.pl_terms.specs.declared.term.Term.TheVariants.{Literal}
 use Rattle.pl_walk.specs.declared.walk.Duty.{Duty}
-use Rattle.pl_walk.specs.Terms.{Atom, Points, Block}
-use Rattle.pl_walk.specs.Rules.{Names, put, Known, start, term_of, next_of, AllocRule, LoadRule, FreeRule}
+use Rattle.pl_terms.specs.Terms.{Atom, Points, Block}
+use Rattle.pl_terms.specs.Table.{Names, put, Known, start, term_of, next_of, AllocRule, LoadRule, FreeRule}
 use Rattle.pl_walk.specs.Walk.{WalksOver, Walks, Refuses, pos_of, Stops}
 use Rattle.pl_walk.specs.Ready.{IsPointer, IsPointerCell, IsLiteral, Ready}
 

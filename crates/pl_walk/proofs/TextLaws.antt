@@ -8,9 +8,9 @@ use lib.Chars.{codes}
 use Rattle.std.specs.Fmt.{decimal}
 use Rattle.std.proofs.lemmas.Fmt.{decimal_digit}
 use Rattle.pl_syntax.specs.Tree.{Name}
-use Rattle.pl_walk.specs.declared.known.Term.{Term}
+use Rattle.pl_terms.specs.declared.term.Term.{Term}
 use Rattle.pl_walk.specs.declared.known.Block as block
-use Rattle.pl_walk.specs.Terms.{Atom}
+use Rattle.pl_terms.specs.Terms.{Atom}
 use Rattle.pl_walk.specs.Walk.{name_or_nothing, term_text, atom_text, atoms_text}
 use Rattle.pl_walk.specs.Shown.{block_atoms, atoms_from}
 use Rattle.pl_walk.specs.Texts.{names_of, value_text, block_text, blocks_text, IsAtomsText}

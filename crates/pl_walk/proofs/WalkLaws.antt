@@ -4,12 +4,13 @@ use Rattle.std.proofs.lemmas.List.Elements.{All-head, All-tail}
 use Rattle.pl_base.specs.declared.pos.Pos.{Pos}
 use Rattle.pl_base.specs.Permission.{whole}
 use Rattle.pl_syntax.specs.Tree.{Name, Expr, Whole, Stmt, Load, Alloc, Free, Print, Fun}
-use Rattle.pl_walk.specs.declared.known.Term.{Term}
-use Rattle.pl_walk.specs.declared.known.Term.TheVariants.{Literal}
+use Rattle.pl_terms.specs.declared.term.Term.{Term}
+use Rattle.pl_terms.specs.declared.term.Term.TheVariants.{Literal}
 use Rattle.pl_walk.specs.declared.walk.Duty.{Duty}
 use Rattle.pl_walk.specs.declared.walk.Duty.TheVariants.{Leftover}
-use Rattle.pl_walk.specs.Terms.{Atom, Points, Block}
-use Rattle.pl_walk.specs.Rules.{Known, start, put, term_of, allocated, AllocRule, Rule, Rules, Derives}
+use Rattle.pl_terms.specs.Terms.{Atom, Points, Block}
+use Rattle.pl_terms.specs.Table.{Known, start, put, term_of, allocated, AllocRule, Rule}
+use Rattle.pl_deriv.specs.Derivations.{Rules, Derives}
 use Rattle.pl_walk.specs.Walk.{PointsTo, PointsWhole, BlockOf, NoneOf, WalksLoad, WalksFree, WalksOver, Walks, atoms_text, LoadRefused, FreeRefused, BlockRefused, Refuses, pos_of, Stops, Undone, AllDone}
 
 -- a statement whose duties are done keeps its rule

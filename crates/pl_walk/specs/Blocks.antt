@@ -1,10 +1,10 @@
 -- The first points-to of a variable, and what giving its block up leaves.
 use Rattle.std.specs.Prelude.{◌≡◌, pos, List, ◌∷◌, ◌++◌}
 use Rattle.pl_base.specs.Permission.{whole}
-use Rattle.pl_walk.specs.declared.known.Term.{Term}
-use Rattle.pl_walk.specs.declared.known.Term.TheVariants.{Literal}
-use Rattle.pl_walk.specs.Terms.{Atom, Points, Block}
-use Rattle.pl_walk.specs.Rules.{Known}
+use Rattle.pl_terms.specs.declared.term.Term.{Term}
+use Rattle.pl_terms.specs.declared.term.Term.TheVariants.{Literal}
+use Rattle.pl_terms.specs.Terms.{Atom, Points, Block}
+use Rattle.pl_terms.specs.Table.{Known}
 use Rattle.pl_walk.specs.Walk.{NoneOf, PointsTo, BlockOf}
 
 -- the first points-to of the variable is a whole one with that value

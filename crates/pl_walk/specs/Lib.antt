@@ -1,8 +1,4 @@
-pub mod Terms
-pub mod Rules
 pub mod Walk
-pub mod Machine
-pub mod Good
 pub mod Blocks
 pub mod Shown
 pub mod Ready

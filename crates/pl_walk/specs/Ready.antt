@@ -1,9 +1,9 @@
 -- The names that a statement uses stand for terms of the sort that the use needs.
 use Rattle.std.specs.Prelude.{Option, Some, None}
 use Rattle.pl_syntax.specs.Tree.{CellExpr, Whole, Stmt, Load, Alloc, Free, Print}
-use Rattle.pl_walk.specs.declared.known.Term.{Term}
-use Rattle.pl_walk.specs.declared.known.Term.TheVariants.{Literal, Variable}
-use Rattle.pl_walk.specs.Rules.{Names, term_of}
+use Rattle.pl_terms.specs.declared.term.Term.{Term}
+use Rattle.pl_terms.specs.declared.term.Term.TheVariants.{Literal, Variable}
+use Rattle.pl_terms.specs.Table.{Names, term_of}
 
 abbrev pub IsPointer : Option Term → Type 0
 IsPointer None = ⊥

@@ -6,7 +6,7 @@ use Rattle.pl_walk.specs.declared.known.Known as known
 use Rattle.pl_walk.specs.declared.walk.Duty.TheVariants.{Leftover}
 use Rattle.pl_walk.specs.declared.walk.WalkError.{WalkError}
 use Rattle.pl_walk.specs.declared.walk.WalkError.TheVariants as e
-use Rattle.pl_walk.specs.Rules.{Known, start}
+use Rattle.pl_terms.specs.Table.{Known, start}
 use Rattle.pl_walk.specs.Walk.{WalksOver, Refuses, pos_of, Walks, Stops, Undone, AllDone, atoms_text}
 use Rattle.pl_walk.specs.Shown.{known_of}
 

@@ -3,12 +3,12 @@ use Rattle.std.specs.Prelude.{ℕ, List, [], ◌∷◌, ◌++◌, ◌+◌, pos, 
 use Rattle.std.specs.Str.{bytes_eq}
 use Rattle.std.specs.HashMap.{get_by}
 use Rattle.pl_base.specs.Permission.{whole}
-use Rattle.pl_walk.specs.declared.known.Term.{Term}
-use Rattle.pl_walk.specs.declared.known.Term.TheVariants.{Literal, Variable}
+use Rattle.pl_terms.specs.declared.term.Term.{Term}
+use Rattle.pl_terms.specs.declared.term.Term.TheVariants.{Literal, Variable}
 use Rattle.pl_walk.specs.declared.known.Block as block
 use Rattle.pl_walk.specs.declared.known.Known as known
-use Rattle.pl_walk.specs.Terms.{Atom, Points, Block}
-use Rattle.pl_walk.specs.Rules.{Known}
+use Rattle.pl_terms.specs.Terms.{Atom, Points, Block}
+use Rattle.pl_terms.specs.Table.{Known}
 
 -- the atoms of the block of that number
 abbrev pub block_atoms : ℕ → Option Term → List Atom

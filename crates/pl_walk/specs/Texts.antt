@@ -3,7 +3,7 @@ use Rattle.std.specs.Prelude.{◌≡◌, ◌≢◌, ℕ, List, [], ◌++◌, Opt
 use Rattle.std.specs.List.{flat_map}
 use lib.Chars.{codes}
 use Rattle.pl_syntax.specs.Tree.{Name}
-use Rattle.pl_walk.specs.declared.known.Term.{Term}
+use Rattle.pl_terms.specs.declared.term.Term.{Term}
 use Rattle.pl_walk.specs.declared.known.Block.{Block}
 use Rattle.pl_walk.specs.Walk.{term_text, atoms_text}
 use Rattle.pl_walk.specs.Shown.{atoms_from}

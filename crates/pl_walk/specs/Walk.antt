@@ -5,12 +5,12 @@ use lib.Chars.{codes}
 use Rattle.pl_base.specs.declared.pos.Pos.{Pos}
 use Rattle.pl_base.specs.Permission.{whole}
 use Rattle.pl_syntax.specs.Tree.{Name, Whole, Stmt, Load, Alloc, Free, Print, Fun}
-use Rattle.pl_walk.specs.declared.known.Term.{Term}
-use Rattle.pl_walk.specs.declared.known.Term.TheVariants.{Literal, Variable}
+use Rattle.pl_terms.specs.declared.term.Term.{Term}
+use Rattle.pl_terms.specs.declared.term.Term.TheVariants.{Literal, Variable}
 use Rattle.pl_walk.specs.declared.walk.Duty.{Duty}
 use Rattle.pl_walk.specs.declared.walk.Duty.TheVariants.{Missing, Leftover}
-use Rattle.pl_walk.specs.Terms.{Atom, Points, Block}
-use Rattle.pl_walk.specs.Rules.{Known, start, AllocRule, LoadRule, FreeRule, PrintRule}
+use Rattle.pl_terms.specs.Terms.{Atom, Points, Block}
+use Rattle.pl_terms.specs.Table.{Known, start, AllocRule, LoadRule, FreeRule, PrintRule}
 
 -- an atom is a points-to of that cell with any permission
 abbrev pub PointsTo : Term → Atom → Type 0

@@ -1,18 +1,11 @@
 // What the walk knows before a statement.
 ghost use Rattle.std.specs.Prelude.{◌≡◌, ◌<◌, ℕ, Some, None, MatchOption, OnOk, OnErr, IfOk, length, [], ◌++◌, ◌∷◌};
-ghost use Rattle.pl_walk.specs.Terms.{Atom};
+ghost use Rattle.pl_terms.specs.Terms.{Atom};
 
 use pl_base::{Memory, Name};
+use pl_terms::Term;
 use std::alloc::Global;
 use std::collections::HashMap;
-
-/// What the checker knows a value by.
-#[derive(Clone, Copy, Debug, PartialEq, Eq)]
-pub enum Term {
-    Literal(i128),
-    /// A variable, by its number.
-    Variable(u32),
-}
 
 /// A block that was allocated: the name that its pointer was bound to, and what its cell holds while it lives.
 #[derive(Clone, Copy)]
@@ -30,7 +23,7 @@ pub struct Known<'p> {
 
 impl<'p> Known<'p> {
     ghost use Rattle.pl_walk.specs.Shown.{known_of};
-    ghost use Rattle.pl_walk.specs.Rules.{start, allocated, put, Known};
+    ghost use Rattle.pl_terms.specs.Table.{start, allocated, put, Known};
     ghost use Rattle.pl_walk.specs.Blocks.{IsFirst, IsFreed};
     ghost use Rattle.pl_walk.specs.Walk.{NoneOf, PointsTo};
 

@@ -6,6 +6,5 @@ mod laws;
 mod text;
 mod walk;
 
-pub use known::Term;
 pub use laws::walk_laws;
 pub use walk::{Duty, WalkError, walk_function};

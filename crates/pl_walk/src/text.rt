@@ -3,8 +3,9 @@ ghost use Rattle.std.specs.Prelude.{◌≡◌, ◌++◌, OnOk, IfOk};
 ghost use Rattle.pl_walk.specs.Texts.{IsAtomsText, names_of, block_text, blocks_text};
 ghost use Rattle.pl_walk.specs.Walk.{term_text};
 
-use crate::known::{Block, Term};
+use crate::known::Block;
 use pl_base::{Items, Memory, Name};
+use pl_terms::Term;
 use std::alloc::Global;
 
 fn put(out: &mut Vec<u8>, bytes: &[u8]) -> Result<(), Memory>

@@ -6,12 +6,13 @@ ghost use Rattle.pl_syntax.specs.Sorts.{AreSorted};
 ghost use Rattle.pl_walk.specs.Ready.{Ready, IsPointer, IsPointerCell, IsLiteral};
 ghost use Rattle.pl_walk.specs.Says.{StatementSays, ListSays, EndSays, FunctionSays};
 ghost use Rattle.pl_walk.specs.Shown.{known_of};
-ghost use Rattle.pl_walk.specs.Rules.{term_of};
+ghost use Rattle.pl_terms.specs.Table.{term_of};
 
-use crate::known::{Known, Term};
+use crate::known::Known;
 use crate::text::{atoms_text, missing};
 use pl_base::{Items, Memory, Name, Pos};
 use pl_syntax::{CellExpr, Decl, Expr, FunDecl, Stmt, Typed};
+use pl_terms::Term;
 use std::alloc::Global;
 
 /// A duty that is left undone, with its text.

@@ -1,5 +1,5 @@
 use Rattle.std.proofs.Common.{◌≡◌, List, ℕ, [], subst, sym, ◌∙◌}
-use Rattle.pl_top.specs.Spelling.{first_place}
+use Rattle.pl_base.specs.Tokens.{first_place}
 use Rattle.pl_top.specs.Leads.{Leads}
 use Rattle.pl_top.proofs.Fronts.{token_and_blanks, all_spelled, is_nil}
 use Rattle.pl_top.proofs.lexing.lex.Goals as goal

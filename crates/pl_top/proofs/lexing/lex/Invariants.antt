@@ -1,5 +1,5 @@
 use Rattle.std.proofs.Common.{◌≡◌, false, length}
-use Rattle.pl_top.specs.Spelling.{first_place, begins, is_blank}
+use Rattle.pl_base.specs.Tokens.{first_place, begins, is_blank}
 use Rattle.pl_top.specs.Leads.{Leads, HasRoom}
 use Rattle.pl_top.proofs.lexing.lex.Given as goal
 

@@ -1,5 +1,5 @@
 use Rattle.std.proofs.Common.{◌≡◌, ◌≤◌, ◌+◌, drop}
-use Rattle.pl_top.specs.Spelling as spelling
+use Rattle.pl_base.specs.Tokens as spelling
 use Rattle.pl_top.proofs.lexing.place_behind.Given as goal
 
 abbrev pub invariant-loop-byte : goal.invariant-loop-byte

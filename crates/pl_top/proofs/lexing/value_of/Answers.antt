@@ -1,5 +1,5 @@
 use Rattle.std.proofs.Common.{◌≡◌, ◌+◌, ◌*◌, ◌-◌, ◌∷◌, suc, drop, get_or, sym, ap, ◌∙◌, arith, drop-cons}
-use Rattle.pl_top.specs.Spelling.{digits_onto}
+use Rattle.pl_base.specs.Tokens.{digits_onto}
 use Rattle.pl_top.proofs.Runs.{value_grows}
 use Rattle.pl_top.proofs.lexing.value_of.Goals as goal
 

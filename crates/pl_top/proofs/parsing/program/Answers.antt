@@ -2,7 +2,7 @@ use Rattle.std.proofs.Common.{◌≡◌, map, sym, subst, refl}
 use Rattle.std.proofs.lemmas.Result.{err_from_is_err_and}
 use Rattle.pl_syntax.specs.Tree.{Program}
 use Rattle.pl_syntax.specs.Plain.{plain_stmt, plain_program}
-use Rattle.pl_top.specs.Grammar.{IsProgram}
+use Rattle.pl_syntax.specs.Grammar.{IsProgram}
 use Rattle.pl_top.specs.Forms.{header_at}
 use Rattle.pl_top.proofs.Bodies.{program_of, program_is, no_header, no_body, program_fails, program_fails_behind}
 use Rattle.pl_top.proofs.parsing.program.Goals as goal

@@ -1,9 +1,5 @@
-use Rattle.pl_walk.proofs.GoodLaws.{good}
 use Rattle.pl_walk.proofs.WalkLaws.{all_done_derives, not_both, undone_once}
 use Rattle.pl_walk.proofs.laws.walk_laws.Goals as goal
-
-pub returns-clause-good : goal.returns-clause-good
-returns-clause-good c = good
 
 pub returns-clause-derives : goal.returns-clause-derives
 returns-clause-derives c = all_done_derives

@@ -1,4 +1,4 @@
-use Rattle.pl_walk.specs.declared.known.Term.TheVariants.{Variable}
+use Rattle.pl_terms.specs.declared.term.Term.TheVariants.{Variable}
 use Rattle.pl_walk.proofs.BlockLaws.{none_whole}
 use Rattle.pl_walk.proofs.walk.walk_free.Goals as goal
 

@@ -2,7 +2,7 @@ use Rattle.std.proofs.Common.{map, sym, subst, arith}
 use Rattle.std.proofs.lemmas.List.{length-map}
 use Rattle.std.proofs.lemmas.Result.{err_from_is_err_and}
 use Rattle.pl_syntax.specs.Plain.{plain_stmt}
-use Rattle.pl_walk.specs.Rules.{Known}
+use Rattle.pl_terms.specs.Table.{Known}
 use Rattle.pl_walk.specs.Shown.{known_of}
 use Rattle.pl_walk.proofs.Reaching.{Reaches, reaches_first, reaches_ready, reaches_next, stops_with, reaches_end, item_at}
 use Rattle.pl_walk.proofs.walk.walk_list.Goals as goal

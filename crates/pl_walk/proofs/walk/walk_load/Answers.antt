@@ -1,7 +1,7 @@
 use Rattle.std.proofs.Common.{sym, subst}
 use Rattle.pl_base.specs.Permission.{whole}
 use Rattle.pl_syntax.specs.Tree as t
-use Rattle.pl_walk.specs.declared.known.Term.TheVariants.{Variable}
+use Rattle.pl_terms.specs.declared.term.Term.TheVariants.{Variable}
 use Rattle.pl_walk.specs.Shown.{known_of}
 use Rattle.pl_walk.specs.Walk.{WalksOver}
 use Rattle.pl_walk.proofs.walk.walk_load.Goals as goal

@@ -2,8 +2,8 @@ use Rattle.std.proofs.Common.{◌≡◌, ◌∙◌, sym, ℕ, List, ◌∷◌, �
 use Rattle.std.specs.HashMap.{get_by}
 use Rattle.std.specs.Str.{bytes_eq}
 use Rattle.pl_walk.specs.declared.known.Block.{Block}
-use Rattle.pl_walk.specs.declared.known.Term.TheVariants.{Variable}
-use Rattle.pl_walk.specs.Rules.{Known, Names, put, allocated}
+use Rattle.pl_terms.specs.declared.term.Term.TheVariants.{Variable}
+use Rattle.pl_terms.specs.Table.{Known, Names, put, allocated}
 use Rattle.pl_walk.proofs.BlockLaws.{state, made_is}
 use Rattle.pl_walk.proofs.NameLaws.{on_ok_from}
 use Rattle.pl_walk.proofs.known.Known.allocate.Goals as goal

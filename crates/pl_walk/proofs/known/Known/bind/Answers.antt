@@ -3,7 +3,7 @@ use Rattle.std.specs.HashMap.{get_by}
 use Rattle.std.specs.Str.{bytes_eq}
 use Rattle.std.proofs.lemmas.Map.Text.{hash_map_updates_str}
 use Rattle.pl_walk.specs.declared.known.Block.{Block}
-use Rattle.pl_walk.specs.Rules.{Names}
+use Rattle.pl_terms.specs.Table.{Names}
 use Rattle.pl_walk.specs.Shown.{atoms_from}
 use Rattle.pl_walk.proofs.BlockLaws.{made}
 use Rattle.pl_walk.proofs.NameLaws.{put_is}

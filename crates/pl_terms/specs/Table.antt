@@ -1,11 +1,11 @@
--- Derivations: what the checker knows before and after a statement, where each atom that is taken is given.
+-- The table of statements: what the checker knows before and after each of them, where each atom that is taken is given.
 use Rattle.std.specs.Prelude.{◌≡◌, pos, Option, Some, None, List, [], ◌∷◌, ◌++◌, length, if◌then◌else◌}
 use Rattle.std.specs.Str.{bytes_eq}
 use Rattle.pl_base.specs.Permission.{Permission, whole}
-use Rattle.pl_syntax.specs.Tree.{Name, Expr, Int, Var, Whole, Stmt, Load, Alloc, Free, Print, Fun}
-use Rattle.pl_walk.specs.declared.known.Term.{Term}
-use Rattle.pl_walk.specs.declared.known.Term.TheVariants.{Literal, Variable}
-use Rattle.pl_walk.specs.Terms.{Atom, Points, Block}
+use Rattle.pl_syntax.specs.Tree.{Name, Expr, Int, Var, Whole, Stmt, Load, Alloc, Free, Print}
+use Rattle.pl_terms.specs.declared.term.Term.{Term}
+use Rattle.pl_terms.specs.declared.term.Term.TheVariants.{Literal, Variable}
+use Rattle.pl_terms.specs.Terms.{Atom, Points, Block}
 
 -- what each name stands for
 abbrev pub Names : Type 0
@@ -78,19 +78,9 @@ pub record PrintRule (s : Known) (e : Expr) (t : Known) : Type 0 where
   pub value_is : term_of s.names e ≡ Some value
   pub is : t ≡ s
 
+-- the rule of a statement
 abbrev pub Rule : Known → Stmt → Known → Type 0
 Rule s (Load place x (Whole c) is_ghost) t = LoadRule s x c t
 Rule s (Alloc place x e) t = AllocRule s x e t
 Rule s (Free place x) t = FreeRule s x t
 Rule s (Print place e) t = PrintRule s e t
-
--- one statement after another
-abbrev pub Rules : Known → List Stmt → Known → Type 0
-Rules s [] t = t ≡ s
-Rules s (st ∷ rest) t = (u : Known) × Rule s st u × Rules u rest t
-
--- a function derives: at its end nothing is left over
-pub record Derives (f : Fun) : Type 0 where
-  pub end : Known
-  pub rules : Rules start f.body.list end
-  pub none_left : end.atoms ≡ []

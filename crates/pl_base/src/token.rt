@@ -1,4 +1,5 @@
-use pl_base::{Name, Pos};
+use crate::name::Name;
+use crate::pos::Pos;
 
 /// A token of the small grammar. Its place is its first byte's.
 #[derive(Debug, Drop)]

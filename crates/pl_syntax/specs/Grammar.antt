@@ -6,21 +6,11 @@ use lib.Chars.{codes}
 use Rattle.pl_base.specs.declared.pos.Pos.{Pos}
 use Rattle.pl_syntax.specs.Tree.{Name, Expr, Int, Var, Whole, Stmt, Load, Alloc, Free, Print, Function, Program}
 use Rattle.pl_syntax.specs.Sorts.{IsTyped}
-use Rattle.pl_top.specs.declared.token.Token.{Token}
-use Rattle.pl_top.specs.declared.token.Kind.TheVariants.{Word, Number, Sign}
-use Rattle.pl_top.specs.Spelling.{first_place, Spells}
+use Rattle.pl_base.specs.declared.token.Token.{Token}
+use Rattle.pl_base.specs.declared.token.Kind.TheVariants.{Word, Number, Sign}
+use Rattle.pl_base.specs.Tokens.{words, first_place, Spells}
 
--- the words of the language, which are no names
-abbrev pub words : List (List ℕ)
-words = codes "struct" ∷ codes "pred" ∷ codes "ghost" ∷ codes "fn" ∷ codes "opens" ∷ codes "requires" ∷ codes "returns" ∷ codes "ensures" ∷ codes "decreases"
-    ∷ codes "let" ∷ codes "mut" ∷ codes "if" ∷ codes "else" ∷ codes "while" ∷ codes "invariant" ∷ codes "with" ∷ codes "with_invariants" ∷ codes "assert" ∷ codes "by"
-    ∷ codes "return" ∷ codes "par" ∷ codes "not" ∷ codes "true" ∷ codes "false" ∷ codes "null" ∷ codes "emp" ∷ codes "pure" ∷ codes "exists" ∷ codes "slice" ∷ codes "block"
-    ∷ codes "lock_alive" ∷ codes "lock_held" ∷ codes "inv" ∷ codes "fold" ∷ codes "unfold" ∷ codes "rewrite" ∷ codes "as" ∷ codes "share" ∷ codes "gather" ∷ codes "split"
-    ∷ codes "join" ∷ codes "at" ∷ codes "focus" ∷ codes "unfocus" ∷ codes "drop_" ∷ codes "alloc" ∷ codes "alloc_array" ∷ codes "alloc_atomic" ∷ codes "new" ∷ codes "free"
-    ∷ codes "free_array" ∷ codes "new_lock" ∷ codes "acquire" ∷ codes "release" ∷ codes "free_lock" ∷ codes "read" ∷ codes "print" ∷ codes "atomic_read" ∷ codes "atomic_write"
-    ∷ codes "cas" ∷ codes "galloc" ∷ codes "new_invariant" ∷ codes "i64" ∷ codes "bool" ∷ codes "ref" ∷ codes "atomic" ∷ codes "lock" ∷ codes "int" ∷ codes "perm" ∷ codes "gref"
-    ∷ codes "iname" ∷ []
-
+-- a name is no word of the language
 abbrev pub IsName : Name → Type 0
 IsName x = list_any (λ w. bytes_eq w x) words ≡ false
 

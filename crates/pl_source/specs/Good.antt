@@ -3,7 +3,7 @@ use Rattle.std.specs.Prelude.{◌≡◌, ◌≢◌, ◌⊎◌, ℕ, ℤ, Option,
 use Rattle.pl_syntax.specs.Tree.{Whole, Stmt, Load, Alloc, Free, Print, Fun}
 use Rattle.pl_syntax.specs.Values.{Value, Block, Vars}
 use Rattle.pl_syntax.specs.Resource.{Resource, Adds, Sums}
-use Rattle.pl_walk.specs.Machine.{resource_of, Event, Fault, Frame, Thread, State, Moves, Faults, step, moved, start_of}
+use Rattle.pl_source.specs.Machine.{resource_of, Event, Fault, Frame, Thread, State, Moves, Faults, step, moved, start_of}
 
 -- what an event touches: a cell that it reads, or a whole block that it frees
 pub data Touch : Type 0 where

@@ -1,25 +1,16 @@
 -- What a change of the heap does to what there is to own.
-use Rattle.std.proofs.Common.{◌≡◌, ℕ, zero, suc, pos, Option, Some, None, Bool, true, false, ◌&&◌, if◌then◌else◌, [], ◌∷◌, ◌++◌, length, refl, sym, ap, ◌∙◌, set}
+use Rattle.std.proofs.Common.{◌≡◌, ℕ, zero, suc, Option, Some, None, Bool, true, false, ◌&&◌, if◌then◌else◌, [], ◌∷◌, ◌++◌, length, refl, sym, ap, ◌∙◌, set}
 use mathlib.Core.Path.{fun_ext}
-use Rattle.pl_base.specs.Permission.{Permission, whole, same_number}
+use Rattle.pl_base.specs.declared.pos.Pos.{Pos}
+use Rattle.pl_base.specs.Permission.{Permission, same_number}
 use Rattle.pl_base.proofs.PermissionLaws.{number_sound}
-use Rattle.pl_syntax.specs.Values.{Value, Number}
-use Rattle.pl_syntax.specs.Resource.{Mark, Plain, Place, Cell, FreeToken, Share, Resource, Adds, IsEmpty, put_at}
+use Rattle.pl_syntax.specs.Tree.{Name, Whole, Load, Free}
+use Rattle.pl_syntax.specs.Values.{Value, Block, Vars}
+use Rattle.pl_syntax.specs.Resource.{Mark, Place, Cell, FreeToken, Share, Resource, Adds, IsEmpty, put_at}
 use Rattle.pl_syntax.specs.Holds.{Owns}
 use Rattle.pl_syntax.proofs.ResourceLaws.{owned_within}
-use Rattle.pl_walk.specs.Machine.{HeapBlock, Heap, block_at, block_cell, block_token, resource_of, one_cell}
-
--- the share of a whole plain place
-abbrev pub full : Value → Share
-full w = record { permission = whole; value = w; mark = Plain }
-
--- the share of the free token of a block of one element
-abbrev pub one_token : Share
-one_token = full (Number (pos 1))
-
--- each live block has one plain cell
-pub record OneCells (h : Heap) : Type 0 where
-  pub each : (b : ℕ) (block : HeapBlock) → block_at h b ≡ Some block → (w : Value) × (block ≡ one_cell w)
+use Rattle.pl_source.specs.Machine.{HeapBlock, Heap, block_at, block_cell, block_token, resource_of, one_cell, load_at, load_block, free_at, free_block, effect, FaultsBy, DeadBlock}
+use Rattle.pl_source.specs.Steps.{full, one_token, OneCells}
 
 -- a new block
 pub block_new : (h : Heap) (c : ℕ) (o : Option HeapBlock) → block_at (h ++ o ∷ []) c ≡ (if same_number (length h) c then o else block_at h c)
@@ -129,3 +120,11 @@ live_cell (Some block) w s one e v =
 -- where a part owns a cell, its block is live and has the value
 pub owned_live : {x frame : Resource} {permission : Permission} {mark : Mark} (h : Heap) (b : ℕ) (w : Value) → OneCells h → Owns (Cell b 0 0) permission w mark x → Adds x frame (resource_of h) → block_at h b ≡ Some (one_cell w)
 owned_live h b w k o a = let r = owned_within (Cell b 0 0) o a in live_cell (block_at h b) w r.0 (k.each b) r.1 r.2
+
+-- a load of a freed block faults
+pub dead_load : (place : Pos) (x c : Name) (is_ghost : Bool) (b : ℕ) (h : Heap) (vars : Vars) → vars c ≡ Some (Block b) → block_at h b ≡ None → effect (Load place x (Whole c) is_ghost) h vars ≡ FaultsBy DeadBlock
+dead_load place x c is_ghost b h vars e d = ap (λ v. load_at x v h vars) e ∙ ap (λ o. load_block x b o h vars) d
+
+-- so does a free of one
+pub dead_free : (place : Pos) (x : Name) (b : ℕ) (h : Heap) (vars : Vars) → vars x ≡ Some (Block b) → block_at h b ≡ None → effect (Free place x) h vars ≡ FaultsBy DeadBlock
+dead_free place x b h vars e d = ap (λ v. free_at v h vars) e ∙ ap (λ o. free_block b o h vars) d

@@ -5,12 +5,14 @@ use Rattle.pl_syntax.specs.Values.{no_vars}
 use Rattle.pl_syntax.specs.Sorts.{Scope, AreSorted, IsMain}
 use Rattle.pl_syntax.specs.Resource.{Resource, Adds, IsEmpty, nothing}
 use Rattle.pl_syntax.proofs.ResourceLaws.{adds_nothing, adds_nothing', nothing_empty}
-use Rattle.pl_walk.specs.Terms.{Values, AllHold}
-use Rattle.pl_walk.specs.Rules.{Known, start, Rules, Derives}
-use Rattle.pl_walk.specs.Machine.{resource_of, Event, Effect, Goes, FaultsBy, HasNone, effect, Frame, Thread, State, Outcome, Moves, Stands, Faults, Stuck, on_effect, step_left, step_frames, step_thread, step, moved, start_of}
-use Rattle.pl_walk.specs.Good.{Touch, NoCell, thread_touch, touch, Conflict, read_freed, freed_read, freed_twice, Race, StandsBefore, IsFine, Split, Keeps, RunSplits, Good}
-use Rattle.pl_walk.proofs.HeapLaws.{OneCells, resource_none, one_cells_none}
-use Rattle.pl_walk.proofs.StepLaws.{Fits, scope_after, sorted_rest, stmt_goes}
+use Rattle.pl_terms.specs.Terms.{Values, AllHold}
+use Rattle.pl_terms.specs.Table.{Known, start}
+use Rattle.pl_deriv.specs.Derivations.{Rules, Derives}
+use Rattle.pl_source.specs.Machine.{resource_of, Event, Effect, Goes, FaultsBy, HasNone, effect, Frame, Thread, State, Outcome, Moves, Stands, Faults, Stuck, on_effect, step_left, step_frames, step_thread, step, moved, start_of}
+use Rattle.pl_source.specs.Good.{Touch, NoCell, thread_touch, touch, Conflict, read_freed, freed_read, freed_twice, Race, StandsBefore, IsFine, Split, Keeps, RunSplits, Good}
+use Rattle.pl_source.specs.Steps.{OneCells, Fits, scope_after}
+use Rattle.pl_source.proofs.HeapLaws.{resource_none, one_cells_none}
+use Rattle.pl_source.proofs.StepLaws.{sorted_rest, stmt_goes}
 
 -- a call that isn't over: what is known holds of its variables and the part, and the statements that are left derive
 pub record Active (f : Frame) (x : Resource) : Type 0 where

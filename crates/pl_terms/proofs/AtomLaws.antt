@@ -1,17 +1,13 @@
 -- The laws of terms and atoms.
-use Rattle.std.proofs.Common.{◌≡◌, ℕ, ◌+◌, ◌≤◌, Option, Some, None, Bool, true, false, if◌then◌else◌, List, [], ◌∷◌, ◌++◌, length, length-append, refl, sym, ap, ◌∙◌, subst, arith}
+use Rattle.std.proofs.Common.{◌≡◌, ℕ, ◌+◌, Option, Some, None, Bool, true, false, if◌then◌else◌, List, [], ◌∷◌, ◌++◌, length, length-append, refl, sym, ap, ◌∙◌, subst, arith}
 use Rattle.pl_base.specs.Permission.{same_number}
 use Rattle.pl_base.proofs.PermissionLaws.{number_sound, number_refl}
 use Rattle.pl_syntax.specs.Values.{Value}
 use Rattle.pl_syntax.specs.Resource.{Resource, Adds, nothing}
 use Rattle.pl_syntax.proofs.ResourceLaws.{adds_comm, adds_assoc, adds_empty, adds_nothing', nothing_empty}
-use Rattle.pl_walk.specs.declared.known.Term.{Term}
-use Rattle.pl_walk.specs.declared.known.Term.TheVariants.{Literal, Variable}
-use Rattle.pl_walk.specs.Terms.{Atom, Points, Block, Values, eval, AtomHolds, AllHold}
-
--- more variables have values, and the others are as they were
-pub record Extends (vs us : Values) : Type 0 where
-  pub keeps : (i : ℕ) (w : Value) → vs i ≡ Some w → us i ≡ Some w
+use Rattle.pl_terms.specs.declared.term.Term.{Term}
+use Rattle.pl_terms.specs.declared.term.Term.TheVariants.{Literal, Variable}
+use Rattle.pl_terms.specs.Terms.{Atom, Points, Block, Values, eval, AtomHolds, AllHold, Extends, Fresh, Taken}
 
 -- values extend themselves
 pub extends_refl : (vs : Values) → Extends vs vs
@@ -20,10 +16,6 @@ extends_refl vs = record { keeps = λ i w h. h }
 -- two extensions in turn are one
 pub extends_trans : {vs us ts : Values} → Extends vs us → Extends us ts → Extends vs ts
 extends_trans h k = record { keeps = λ i w e. k.keeps i w (h.keeps i w e) }
-
--- no variable from k on has a value
-pub record Fresh (k : ℕ) (vs : Values) : Type 0 where
-  pub none : (i : ℕ) → k ≤ i → vs i ≡ None
 
 -- one variable more has a value
 abbrev pub give : ℕ → Value → Values → Values
@@ -89,14 +81,6 @@ all_both vs [] ys y z x a h k = subst (λ r. AllHold vs ys r) (sym (adds_empty h
 all_both vs (b ∷ xs) ys y z x a h k =
     let r = adds_assoc h.2 a in
     (h.0, r.0, r.2, h.3, all_both vs xs ys h.1 z r.0 r.1 h.4 k)
-
--- an atom's part, and that of the others
-pub record Taken (vs : Values) (a : Atom) (left : List Atom) (x : Resource) : Type 0 where
-  pub part : Resource
-  pub rest : Resource
-  pub adds : Adds part rest x
-  pub holds : AtomHolds vs a part
-  pub others : AllHold vs left rest
 
 -- an atom may be taken out of a list
 pub take_out : (vs : Values) (front back : List Atom) (a : Atom) (x : Resource) → AllHold vs (front ++ a ∷ back) x → Taken vs a (front ++ back) x

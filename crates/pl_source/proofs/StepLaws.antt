@@ -12,55 +12,14 @@ use Rattle.pl_syntax.specs.Sorts.{Scope, sort_of, IsInteger, AreSorted}
 use Rattle.pl_syntax.specs.Resource.{Plain, Cell, FreeToken, Resource, Adds, nothing, put_at}
 use Rattle.pl_syntax.specs.Holds.{Owns}
 use Rattle.pl_syntax.proofs.ResourceLaws.{adds_comm, adds_assoc, adds_assoc', put_adds, give_up, owns_put}
-use Rattle.pl_walk.specs.declared.known.Term.{Term}
-use Rattle.pl_walk.specs.declared.known.Term.TheVariants.{Literal}
-use Rattle.pl_walk.specs.Terms.{Points, Block, Values, eval, AtomHolds, AllHold}
-use Rattle.pl_walk.specs.Rules.{Names, put, Known, term_of, next_of, allocated, AllocRule, LoadRule, FreeRule, PrintRule, Rule}
-use Rattle.pl_walk.specs.Machine.{Heap, block_at, block_cell, block_token, resource_of, one_cell, Event, AllocEvent, LoadEvent, FreeEvent, PrintEvent, Goes, alloc_effect, load_at, load_block, free_at, free_block, print_effect, effect}
-use Rattle.pl_walk.proofs.AtomLaws.{Extends, extends_refl, Fresh, give, extends_give, give_same, fresh_give, length_more, eval_keeps, all_keeps, alone, all_both, take_out}
-use Rattle.pl_walk.proofs.HeapLaws.{full, one_token, OneCells, resource_alloc, resource_free, block_past, one_cells_new, one_cells_free, owned_live}
-
--- a name's term has the name's value
-abbrev pub TermFits : Values → Option Term → Option Value → Type 0
-TermFits vs None None = Unit {0}
-TermFits vs None (Some w) = ⊥
-TermFits vs (Some t) None = ⊥
-TermFits vs (Some t) (Some w) = eval vs t ≡ Some w
-
--- names stand for terms with the names' values
-pub record Stands (vs : Values) (names : Names) (vars : Vars) : Type 0 where
-  pub at : (y : Name) → TermFits vs (names y) (vars y)
-
--- a name in scope has a value of its sort
-abbrev pub SortFits : Option Sort → Option Value → Type 0
-SortFits None v = Unit {0}
-SortFits (Some k) None = ⊥
-SortFits (Some k) (Some w) = HasSort k w
-
--- all names in scope have values of their sorts
-pub record HaveSorts (scope : Scope) (vars : Vars) : Type 0 where
-  pub at : (y : Name) → SortFits (sort_of y scope) (vars y)
-
--- at these values, what is known holds of a thread's variables and its part
-pub record Fits (s : Known) (scope : Scope) (vs : Values) (vars : Vars) (x : Resource) : Type 0 where
-  pub names : Stands vs s.names vars
-  pub sorts : HaveSorts scope vars
-  pub fresh : Fresh (length s.origins) vs
-  pub atoms : AllHold vs s.atoms x
-
--- a statement went, and after it what is known then holds, with the same frame
-pub record Went (t : Known) (scope : Scope) (vs : Values) (st : Stmt) (h : Heap) (vars : Vars) (frame : Resource) : Type 0 where
-  pub event : Event
-  pub heap : Heap
-  pub after : Vars
-  pub out : List ℤ
-  pub goes : effect st h vars ≡ Goes event heap after out
-  pub values : Values
-  pub extends : Extends vs values
-  pub part : Resource
-  pub fits : Fits t scope values after part
-  pub adds : Adds part frame (resource_of heap)
-  pub cells : OneCells heap
+use Rattle.pl_terms.specs.declared.term.Term.{Term}
+use Rattle.pl_terms.specs.declared.term.Term.TheVariants.{Literal}
+use Rattle.pl_terms.specs.Terms.{Points, Block, Values, eval, AtomHolds, AllHold, Extends, Fresh}
+use Rattle.pl_terms.specs.Table.{Names, put, Known, term_of, next_of, allocated, AllocRule, LoadRule, FreeRule, PrintRule, Rule}
+use Rattle.pl_source.specs.Machine.{Heap, block_at, block_cell, block_token, resource_of, one_cell, AllocEvent, LoadEvent, FreeEvent, PrintEvent, alloc_effect, load_at, load_block, free_at, free_block, print_effect}
+use Rattle.pl_terms.proofs.AtomLaws.{extends_refl, give, extends_give, give_same, fresh_give, length_more, eval_keeps, all_keeps, alone, all_both, take_out}
+use Rattle.pl_source.specs.Steps.{full, one_token, OneCells, TermFits, Stands, SortFits, HaveSorts, Fits, Went, scope_after}
+use Rattle.pl_source.proofs.HeapLaws.{resource_alloc, resource_free, block_past, one_cells_new, one_cells_free, owned_live}
 
 -- a name's value is that of its term
 pub term_value : (vs : Values) (o : Option Term) (v : Option Value) (t : Term) → TermFits vs o v → o ≡ Some t → v ≡ eval vs t
@@ -248,13 +207,6 @@ module _ (s : Known) (scope : Scope) (vs : Values) (vars : Vars) (x frame : Reso
         adds = subst (λ u. Adds m.rest frame u) (sym left) c.1;
         cells = one_cells_free h o.block (one_cell o.word) found cells;
       }
-
--- the names in scope after a statement
-abbrev pub scope_after : Scope → Stmt → Scope
-scope_after scope (Load place y cell is_ghost) = (y, I64) ∷ scope
-scope_after scope (Alloc place y e) = (y, RefI64) ∷ scope
-scope_after scope (Free place y) = scope
-scope_after scope (Print place e) = scope
 
 -- the statements after the first keep the sort rules
 pub sorted_rest : (scope : Scope) (st : Stmt) (rest : List Stmt) → AreSorted scope (st ∷ rest) → AreSorted (scope_after scope st) rest
