@@ -1,7 +1,7 @@
 -- The laws of derivations.
 use Rattle.std.proofs.Common.{◌≡◌, Some, List, [], ◌∷◌, ◌++◌, refl, sym, ap, ◌∙◌, subst}
 use Rattle.pl_base.specs.declared.pos.Pos.{Pos}
-use Rattle.pl_syntax.specs.Tree.{Name, Expr, Stmt, Alloc, Free, Fun}
+use Rattle.pl_syntax.specs.Tree.{Name, Expr, Stmt, Alloc, Free, FunDecl, list_of}
 use Rattle.pl_terms.specs.Table.{Known, start, allocated}
 use Rattle.pl_deriv.specs.Derivations.{Rules, Derives}
 
@@ -16,7 +16,7 @@ parted s u [] ys a = (s, refl, a)
 parted s u (x ∷ xs) ys a = let r = parted a.0 u xs ys a.2 in (r.0, (a.0, a.1, r.1), r.2)
 
 -- a cell that is never freed is left over
-pub no_leak : (f : Fun) (place : Pos) (x : Name) (e : Expr) → f.body.list ≡ Alloc place x e ∷ [] → Derives f → ⊥
+pub no_leak : (f : FunDecl) (place : Pos) (x : Name) (e : Expr) → list_of f.body ≡ Alloc place x e ∷ [] → Derives f → ⊥
 no_leak f place x e is d =
     let r : Rules start (Alloc place x e ∷ []) d.end = subst (λ l. Rules start l d.end) is d.rules in
     let end : d.end ≡ allocated start x r.1.value = r.2 ∙ r.1.is in
@@ -24,7 +24,7 @@ no_leak f place x e is d =
     cc
 
 -- no name stands for anything at the start
-pub no_free : (f : Fun) (place : Pos) (x : Name) → f.body.list ≡ Free place x ∷ [] → Derives f → ⊥
+pub no_free : (f : FunDecl) (place : Pos) (x : Name) → list_of f.body ≡ Free place x ∷ [] → Derives f → ⊥
 no_free f place x is d =
     let r : Rules start (Free place x ∷ []) d.end = subst (λ l. Rules start l d.end) is d.rules in
     let none : start.names x ≡ Some r.1.base = r.1.base_is in

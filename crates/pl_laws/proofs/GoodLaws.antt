@@ -1,6 +1,6 @@
 -- A program with a derivation is good: each of its runs has an annotation, and each state of it is fine.
 use Rattle.std.proofs.Common.{◌≡◌, ◌≢◌, ◌⊎◌, ℕ, zero, suc, ℤ, Option, Some, None, List, [], ◌∷◌, ◌++◌, length, refl, sym, ap, ◌∙◌, subst, slice_get, set, inl, inr}
-use Rattle.pl_syntax.specs.Tree.{Stmt, Fun}
+use Rattle.pl_syntax.specs.Tree.{Stmt, FunDecl, list_of}
 use Rattle.pl_syntax.specs.Values.{no_vars}
 use Rattle.pl_syntax.specs.Sorts.{Scope, AreSorted, IsMain}
 use Rattle.pl_syntax.specs.Resource.{Resource, Adds, IsEmpty, nothing}
@@ -201,15 +201,15 @@ runs_ok (t ∷ ts) s a =
     (fine s a, (split_of (moved s (step s t)) m.0, m.1, runs_ok ts (moved s (step s t)) m.0))
 
 -- the first state of a program with a derivation is annotated
-pub start_ok : (f : Fun) (input : List ℤ) → IsMain f → Derives f → Annotated (start_of f input)
+pub start_ok : (f : FunDecl) (input : List ℤ) → IsMain f → Derives f → Annotated (start_of f input)
 start_ok f input m d =
-    let first : Frame = record { left = f.body.list; vars = no_vars } in
+    let first : Frame = record { left = list_of f.body; vars = no_vars } in
     let act : Active first (resource_of []) = record {
       scope = [];
       known = start;
       values = λ i. None;
       fits = record { names = record { at = λ y. tt }; sorts = record { at = λ y. tt }; fresh = record { none = λ i l. refl }; atoms = resource_none };
-      sorted = m.1;
+      sorted = m.statements;
       end = d.end;
       rules = d.rules;
       none_left = d.none_left;
@@ -217,7 +217,7 @@ start_ok f input m d =
     record { frames = first ∷ []; only = refl; part = resource_of []; adds = adds_nothing' (resource_of []); phase = act; cells = one_cells_none }
 
 -- a program with a derivation is good
-pub good : (f : Fun) → IsMain f → Derives f → Good f
+pub good : (f : FunDecl) → IsMain f → Derives f → Good f
 good f m d = record {
   first = λ input. split_of (start_of f input) (start_ok f input m d);
   runs = λ input ts. runs_ok ts (start_of f input) (start_ok f input m d);

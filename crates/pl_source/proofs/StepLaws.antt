@@ -66,6 +66,7 @@ sort_value (Some l) (Some w) k h e = let q : l ≡ k = cc in (w, refl, subst (λ
 pub integer_value : (scope : Scope) (vars : Vars) (e : Expr) → HaveSorts scope vars → IsInteger scope e → (w : Value) × (value_of vars e ≡ Some w) × HasSort I64 w
 integer_value scope vars (Int place n) h k = (Number n, refl, k)
 integer_value scope vars (Var place y) h k = sort_value (sort_of y scope) (vars y) I64 (h.at y) k
+integer_value scope vars _ h k = absurd k
 
 -- a value of sort i64 is a number
 pub integer_number : (w : Value) → HasSort I64 w → (n : ℤ) × (w ≡ Number n)
@@ -76,6 +77,7 @@ integer_number _ h = absurd h
 pub expr_value : (vs : Values) (names : Names) (vars : Vars) (e : Expr) (t : Term) → Stands vs names vars → term_of names e ≡ Some t → value_of vars e ≡ eval vs t
 expr_value vs names vars (Int place n) t h e = let k : Literal n ≡ t = cc in ap (eval vs) k
 expr_value vs names vars (Var place y) t h e = term_value vs (names y) (vars y) t (h.at y) e
+expr_value vs names vars _ t h e = cc
 
 -- two blocks of one term are one
 pub block_same : (v : Option Value) (a b : ℕ) → v ≡ Some (values.Block a) → v ≡ Some (values.Block b) → a ≡ b
@@ -214,6 +216,7 @@ sorted_rest scope (Load place y cell is_ghost) rest h = h.2
 sorted_rest scope (Alloc place y e) rest h = h.1
 sorted_rest scope (Free place y) rest h = h.1
 sorted_rest scope (Print place e) rest h = h.1
+sorted_rest scope _ rest h = absurd h
 
 -- a statement that keeps its rule goes, in any frame
 pub stmt_goes : (s : Known) (scope : Scope) (vs : Values) (vars : Vars) (x frame : Resource) (h : Heap) → Fits s scope vs vars x → Adds x frame (resource_of h) → OneCells h →
@@ -222,3 +225,4 @@ stmt_goes s scope vs vars x frame h fits adds cells (Load place y (Whole c) is_g
 stmt_goes s scope vs vars x frame h fits adds cells (Alloc place y e) rest t r sorted = alloc_goes s scope vs vars x frame h fits adds cells place y e t r sorted.0
 stmt_goes s scope vs vars x frame h fits adds cells (Free place y) rest t r sorted = free_goes s scope vs vars x frame h fits adds cells place y t r
 stmt_goes s scope vs vars x frame h fits adds cells (Print place e) rest t r sorted = print_goes s scope vs vars x frame h fits adds cells place e t r sorted.0
+stmt_goes s scope vs vars x frame h fits adds cells _ rest t r sorted = absurd r

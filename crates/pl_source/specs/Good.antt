@@ -1,6 +1,6 @@
 -- Annotated runs and good programs.
 use Rattle.std.specs.Prelude.{◌≡◌, ◌≢◌, ◌⊎◌, ℕ, ℤ, Option, Some, None, List, [], ◌∷◌, length, slice_get}
-use Rattle.pl_syntax.specs.Tree.{Whole, Stmt, Load, Alloc, Free, Print, Fun}
+use Rattle.pl_syntax.specs.Tree.{Whole, Stmt, Load, Free, FunDecl}
 use Rattle.pl_syntax.specs.Values.{Value, Block, Vars}
 use Rattle.pl_syntax.specs.Resource.{Resource, Adds, Sums}
 use Rattle.pl_source.specs.Machine.{resource_of, Event, Fault, Frame, Thread, State, Moves, Faults, step, moved, start_of}
@@ -22,8 +22,7 @@ frees_at _ = NoCell
 abbrev pub stmt_touch : Stmt → Vars → Touch
 stmt_touch (Load place x (Whole c) is_ghost) vars = reads_at (vars c)
 stmt_touch (Free place x) vars = frees_at (vars x)
-stmt_touch (Alloc place x e) vars = NoCell
-stmt_touch (Print place e) vars = NoCell
+stmt_touch _ vars = NoCell
 
 abbrev pub left_touch : List Stmt → Vars → Touch
 left_touch [] vars = NoCell
@@ -85,6 +84,6 @@ RunSplits [] s a = IsFine s
 RunSplits (t ∷ ts) s a = IsFine s × ((b : Split (moved s (step s t))) × Keeps t a b × RunSplits ts (moved s (step s t)) b)
 
 -- for every input, every run has an annotation, and each of its states is fine
-pub record Good (main : Fun) : Type 0 where
+pub record Good (main : FunDecl) : Type 0 where
   pub first : (input : List ℤ) → Split (start_of main input)
   pub runs : (input : List ℤ) (ts : List ℕ) → RunSplits ts (start_of main input) (first input)

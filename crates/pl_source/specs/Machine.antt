@@ -1,7 +1,7 @@
 -- What a program does: its state, its events, and its runs as lists of threads.
 use Rattle.std.specs.Prelude.{ℕ, ℤ, pos, Option, Some, None, Bool, true, false, List, [], ◌∷◌, ◌++◌, length, slice_get, set}
 use Rattle.pl_base.specs.Permission.{whole}
-use Rattle.pl_syntax.specs.Tree.{Name, Whole, Stmt, Load, Alloc, Free, Print, Fun}
+use Rattle.pl_syntax.specs.Tree.{Name, Whole, Stmt, Load, Alloc, Free, Print, FunDecl, list_of}
 use Rattle.pl_syntax.specs.Values.{Value, Number, Null, Block, Vars, no_vars, bind, value_of}
 use Rattle.pl_syntax.specs.Resource.{Mark, Plain, Atomic, Cell, FreeToken, Share, Resource}
 
@@ -107,11 +107,13 @@ abbrev pub print_effect : Option Value → Heap → Vars → Effect
 print_effect (Some (Number n)) h vars = Goes (PrintEvent n) h vars (n ∷ [])
 print_effect _ h vars = HasNone
 
+-- the effect of a statement; the other forms aren't built yet
 abbrev pub effect : Stmt → Heap → Vars → Effect
 effect (Load place x (Whole c) is_ghost) h vars = load_at x (vars c) h vars
 effect (Alloc place x e) h vars = alloc_effect x (value_of vars e) h vars
 effect (Free place x) h vars = free_at (vars x) h vars
 effect (Print place e) h vars = print_effect (value_of vars e) h vars
+effect _ h vars = HasNone
 
 -- a call that isn't over: the statements that are left, and its variables
 pub record Frame : Type 0 where
@@ -171,5 +173,5 @@ run [] s = s
 run (t ∷ ts) s = run ts (moved s (step s t))
 
 -- one thread, before the statements of `main`
-abbrev pub start_of : Fun → List ℤ → State
-start_of main input = record { heap = []; input = input; out = []; threads = (record { left = main.body.list; vars = no_vars } ∷ []) ∷ [] }
+abbrev pub start_of : FunDecl → List ℤ → State
+start_of main input = record { heap = []; input = input; out = []; threads = (record { left = list_of main.body; vars = no_vars } ∷ []) ∷ [] }

@@ -72,3 +72,4 @@ scope_after scope (Load place y cell is_ghost) = (y, I64) ∷ scope
 scope_after scope (Alloc place y e) = (y, RefI64) ∷ scope
 scope_after scope (Free place y) = scope
 scope_after scope (Print place e) = scope
+scope_after scope _ = scope

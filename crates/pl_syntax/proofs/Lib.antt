@@ -1,1 +1,3 @@
 pub mod ResourceLaws
+pub mod Crossing
+pub mod TreeLaws

@@ -1,10 +1,11 @@
 -- The small grammar: one function `main` of lets, prints and frees.
-use Rattle.std.specs.Prelude.{◌≡◌, ℕ, ℤ, pos, negsuc, zero, suc, false, List, [], ◌∷◌, ◌++◌}
+use Rattle.std.specs.Prelude.{◌≡◌, ℕ, ℤ, pos, negsuc, zero, suc, false, None, List, [], ◌∷◌, ◌++◌}
 use Rattle.std.specs.List.{list_any}
 use Rattle.std.specs.Str.{bytes_eq}
 use lib.Chars.{codes}
 use Rattle.pl_base.specs.declared.pos.Pos.{Pos}
-use Rattle.pl_syntax.specs.Tree.{Name, Expr, Int, Var, Whole, Stmt, Load, Alloc, Free, Print, Function, Program}
+use Rattle.pl_syntax.specs.Tree.{Name, Expr, Int, Var, Whole, Emp, Stmt, Load, Alloc, Free, Print, braces, FunDecl, Fun, Program}
+use Rattle.pl_syntax.specs.Plain.{chain}
 use Rattle.pl_syntax.specs.Sorts.{IsTyped}
 use Rattle.pl_base.specs.declared.token.Token.{Token}
 use Rattle.pl_base.specs.declared.token.Kind.TheVariants.{Word, Number, Sign}
@@ -48,6 +49,22 @@ abbrev pub AreStatements : List Stmt → List Token → Type 0
 AreStatements [] ks = ks ≡ []
 AreStatements (st ∷ rest) ks = (front : List Token) × (back : List Token) × (ks ≡ front ++ back) × IsStatement st front × AreStatements rest back
 
+-- a function `main` by the place of its name, its statements and the place of its closing brace; a clause that isn't written
+-- is `emp` at the name
+abbrev pub main_of : Pos → List Stmt → Pos → FunDecl
+main_of place list close = record {
+  pos = place;
+  is_ghost = false;
+  name = codes "main";
+  params = [];
+  opens = false;
+  before = Emp place;
+  result = None;
+  after = Emp place;
+  measure = None;
+  body = braces (chain list) close;
+}
+
 -- file = "fn" "main" "(" ")" "{" { stmt } "}"
 pub record IsProgram (program : Program) (ks : List Token) : Type 0 where
   pub p : Pos
@@ -60,7 +77,7 @@ pub record IsProgram (program : Program) (ks : List Token) : Type 0 where
   pub body : List Token
   pub statements : AreStatements list body
   pub tokens : ks ≡ word p (codes "fn") ∷ word q (codes "main") ∷ sign r 40 ∷ sign s 41 ∷ sign t 123 ∷ body ++ (sign close 125 ∷ [])
-  pub is : program ≡ record { decls = Function (record { pos = q; name = codes "main"; body = record { list = list; close = close } }) ∷ [] }
+  pub is : program ≡ record { decls = Fun (main_of q list close) ∷ [] }
 
 -- the bytes of a file of the small grammar, and its program
 pub record IsFile (bytes : List ℕ) (program : Program) : Type 0 where

@@ -4,4 +4,5 @@ pub mod Sorts
 pub mod Values
 pub mod Resource
 pub mod Holds
+pub mod Places
 pub mod Grammar

@@ -1,11 +1,11 @@
 -- The sort rules: each name that is used was bound before, with the sort that its use needs.
-use Rattle.std.specs.Prelude.{◌≡◌, false, Option, Some, None, List, [], ◌∷◌, if◌then◌else◌, FitsSigned}
+use Rattle.std.specs.Prelude.{◌≡◌, ⊤, false, Option, Some, None, List, [], ◌∷◌, if◌then◌else◌, FitsSigned}
 use Rattle.std.specs.Int.{w64}
 use Rattle.std.specs.Str.{bytes_eq}
 use lib.Chars.{codes}
 use Rattle.pl_syntax.specs.declared.expr.Sort.{Sort}
 use Rattle.pl_syntax.specs.declared.expr.Sort.TheVariants.{I64, RefI64}
-use Rattle.pl_syntax.specs.Tree.{Name, Expr, Int, Var, CellExpr, Whole, Stmt, Load, Alloc, Free, Print, Fun, Function, Program}
+use Rattle.pl_syntax.specs.Tree.{Name, Expr, Int, Var, CellExpr, Whole, Prop, Emp, Stmt, Load, Alloc, Free, Print, FunDecl, Fun, Program, list_of}
 
 -- the names that are bound, with their sorts, the newest first
 abbrev pub Scope : Type 0
@@ -20,9 +20,11 @@ sort_of x (b ∷ bs) = if bytes_eq x b.0 then Some b.1 else sort_of x bs
 abbrev pub IsInteger : Scope → Expr → Type 0
 IsInteger scope (Int pos n) = FitsSigned w64 n
 IsInteger scope (Var pos x) = sort_of x scope ≡ Some I64
+IsInteger scope _ = ⊥
 
 abbrev pub IsCell : Scope → CellExpr → Type 0
 IsCell scope (Whole base) = sort_of base scope ≡ Some RefI64
+IsCell scope _ = ⊥
 
 -- the statements keep the rules where these names are bound
 abbrev pub AreSorted : Scope → List Stmt → Type 0
@@ -31,11 +33,29 @@ AreSorted scope (Load pos x cell is_ghost ∷ rest) = (is_ghost ≡ false) × Is
 AreSorted scope (Alloc pos x e ∷ rest) = IsInteger scope e × AreSorted ((x, RefI64) ∷ scope) rest
 AreSorted scope (Free pos x ∷ rest) = (sort_of x scope ≡ Some RefI64) × AreSorted scope rest
 AreSorted scope (Print pos e ∷ rest) = IsInteger scope e × AreSorted scope rest
+AreSorted scope (_ ∷ rest) = ⊥
 
--- a function's name is `main`, and its statements keep the rules
-abbrev pub IsMain : Fun → Type 0
-IsMain f = (f.name ≡ codes "main") × AreSorted [] f.body.list
+-- no proposition is written
+abbrev pub IsEmp : Prop → Type 0
+IsEmp (Emp pos) = ⊤
+IsEmp _ = ⊥
+
+-- a real function without parameters, clauses and result
+pub record IsBare (f : FunDecl) : Type 0 where
+  pub real : f.is_ghost ≡ false
+  pub params : f.params ≡ []
+  pub opens : f.opens ≡ false
+  pub before : IsEmp f.before
+  pub result : f.result ≡ None
+  pub after : IsEmp f.after
+  pub measure : f.measure ≡ None
+
+-- such a function `main`, whose statements keep the rules
+pub record IsMain (f : FunDecl) : Type 0 where
+  pub name : f.name ≡ codes "main"
+  pub bare : IsBare f
+  pub statements : AreSorted [] (list_of f.body)
 
 -- a program is one function, `main`
 abbrev pub IsTyped : Program → Type 0
-IsTyped p = (f : Fun) × (p.decls ≡ Function f ∷ []) × IsMain f
+IsTyped p = (f : FunDecl) × (p.decls ≡ Fun f ∷ []) × IsMain f

@@ -13,13 +13,12 @@ pub data Value : Type 0 where
   Null : Value
   Block : (b : ℕ) → Value
 
--- a value of a sort is in its range
+-- a value of a sort is in its range; the other sorts aren't built yet
 abbrev pub HasSort : Sort → Value → Type 0
 HasSort I64 (Number n) = FitsSigned w64 n
 HasSort RefI64 (Block b) = Unit {0}
 HasSort RefI64 Null = Unit {0}
-HasSort I64 _ = ⊥
-HasSort RefI64 _ = ⊥
+HasSort _ _ = ⊥
 
 -- the values of the names that are bound, the newest binder's
 abbrev pub Vars : Type 0
@@ -33,7 +32,9 @@ no_vars x = None
 abbrev pub bind : Name → Value → Vars → Vars
 bind x w vars = λ y. if bytes_eq y x then Some w else vars y
 
--- the value of an expression, over unbounded whole numbers; none where a name isn't bound
+-- the value of a literal or a name, over unbounded whole numbers; none where a name isn't bound, and of the other forms, which
+-- aren't built yet
 abbrev pub value_of : Vars → Expr → Option Value
 value_of vars (Int pos n) = Some (Number n)
 value_of vars (Var pos x) = vars x
+value_of vars _ = None

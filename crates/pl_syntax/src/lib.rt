@@ -3,12 +3,14 @@
 
 mod expr;
 mod program;
+mod prop;
 mod stmt;
 mod typed;
 
-pub use expr::{CellExpr, Expr, Sort};
-pub use program::{Decl, FunDecl, Program};
-pub use stmt::{Stmt, Stmts};
+pub use expr::{BinOp, Binder, CellExpr, Class, Expr, Instance, PermExpr, Sort};
+pub use program::{Decl, FunDecl, PredDecl, Program, StructDecl};
+pub use prop::{Body, Prop};
+pub use stmt::{Hint, HintTerm, Init, Key, Stmt, Stmts};
 pub use typed::Typed;
 
 #[cfg(test)]

@@ -15,8 +15,14 @@ impl Model for Typed {
     ghost use Rattle.pl_syntax.specs.declared.program.Program.{Program};
     ghost use Rattle.pl_syntax.specs.Plain.{plain_program};
     ghost use Rattle.pl_syntax.specs.Sorts.{IsTyped};
+    ghost use Rattle.std.specs.Coded.{codes};
+    ghost use Rattle.pl_syntax.specs.contracts.expr.Expr as e;
+    ghost use Rattle.pl_syntax.specs.contracts.prop.Prop as p;
+    ghost use Rattle.pl_syntax.specs.contracts.stmt.Stmts as s;
 
     ghost Value = { Program };
+
+    ghost coded = { Prim.hlevel (codes, e.the_row.coded, p.the_row.coded, s.the_row.coded) };
 
     ghost view = { λ t. t.program };
 

@@ -25,10 +25,11 @@ pub record Known : Type 0 where
 abbrev pub start : Known
 start = record { origins = []; names = λ y. None; atoms = [] }
 
--- the term of an expression; none where its name isn't bound
+-- the term of a literal or a name; none where the name isn't bound, and of the other forms, which aren't built yet
 abbrev pub term_of : Names → Expr → Option Term
 term_of names (Int place n) = Some (Literal n)
 term_of names (Var place x) = names x
+term_of names _ = None
 
 -- the next variable
 abbrev pub next_of : Known → Term
@@ -78,9 +79,10 @@ pub record PrintRule (s : Known) (e : Expr) (t : Known) : Type 0 where
   pub value_is : term_of s.names e ≡ Some value
   pub is : t ≡ s
 
--- the rule of a statement
+-- the rule of a statement; the other forms aren't built yet
 abbrev pub Rule : Known → Stmt → Known → Type 0
 Rule s (Load place x (Whole c) is_ghost) t = LoadRule s x c t
 Rule s (Alloc place x e) t = AllocRule s x e t
 Rule s (Free place x) t = FreeRule s x t
 Rule s (Print place e) t = PrintRule s e t
+Rule s _ t = ⊥

@@ -3,11 +3,11 @@ use Rattle.std.proofs.Common.{◌≡◌, ◌<◌, true, false, Option, Some, Non
 use lib.Chars.{codes}
 use Rattle.std.proofs.lemmas.List.{append_assoc, append-nil, length-append}
 use Rattle.pl_base.specs.declared.pos.Pos.{Pos}
-use Rattle.pl_syntax.specs.Tree.{Stmt, Program, Function}
+use Rattle.pl_syntax.specs.Tree.{Stmt, Braced, Program, Fun}
 use Rattle.pl_base.specs.declared.token.Token.{Token}
 use Rattle.pl_top.specs.declared.parsing.Stop.{Stop}
 use Rattle.pl_top.specs.declared.parsing.Stop.TheVariants as stop
-use Rattle.pl_syntax.specs.Grammar.{word, sign, IsStatement, is_load, is_alloc, is_free, is_print, IsProgram}
+use Rattle.pl_syntax.specs.Grammar.{word, sign, IsStatement, is_load, is_alloc, is_free, is_print, IsProgram, main_of}
 use Rattle.pl_top.specs.Forms.{next, Fails, FailsBody, FailsProgram, word_at, sign_at, begins_sign, statement_at, header_at, end_of, end_at, IsBody, GoesOn, IsOnlyBody}
 use Rattle.pl_top.proofs.Sentences.{some_is, next_some, word_found, sign_found, statement_found, statement_taken}
 
@@ -155,7 +155,11 @@ header_taken p q r s t rest = refl
 
 -- the program of a body
 abbrev pub program_of : Pos → List Stmt → Pos → Program
-program_of q list close = record { decls = Function (record { pos = q; name = codes "main"; body = record { list = list; close = close } }) ∷ [] }
+program_of q list close = record { decls = Fun (main_of q list close) ∷ [] }
+
+-- the program of a body as a block
+abbrev pub made_of : Pos → Braced → Program
+made_of q body = record { decls = Fun (record (main_of q [] q) { body = body }) ∷ [] }
 
 -- what a program's tokens begin with
 program_parts : (ks : List Token) (p : Program) → IsProgram p ks → (q : Pos) × (rest : List Token) × (list : List Stmt) × (close : Pos) × (header_at ks ≡ Some (q, rest)) × IsBody list close rest × (p ≡ program_of q list close)

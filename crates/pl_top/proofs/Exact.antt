@@ -3,7 +3,7 @@ use Rattle.std.proofs.Common.{◌≡◌, ◌≤◌, ◌<◌, ℕ, List, length, 
 use Rattle.std.specs.Prelude.{Result, Ok, Err}
 use Rattle.pl_base.specs.declared.pos.Pos.{Pos}
 use Rattle.pl_base.specs.Outside.{Files, file_in}
-use Rattle.pl_syntax.specs.Tree.{Fun}
+use Rattle.pl_syntax.specs.Tree.{FunDecl}
 use Rattle.pl_walk.specs.declared.walk.Duty.{Duty}
 use Rattle.pl_walk.specs.Walk.{Undone}
 use Rattle.pl_walk.proofs.WalkLaws.{not_both}
@@ -14,7 +14,7 @@ use Rattle.pl_top.specs.Judging.{program_of, IsFileOf, IsAccepted, IsUndone, Jud
 use Rattle.pl_top.specs.Calls.{Answered, IsExact, IsExactFor, Promised}
 
 -- a file has one function
-one_function : (bytes : List ℕ) (main other : Fun) → IsFileOf bytes main → IsFileOf bytes other → other ≡ main
+one_function : (bytes : List ℕ) (main other : FunDecl) → IsFileOf bytes main → IsFileOf bytes other → other ≡ main
 one_function bytes main other f g = let e : program_of other ≡ program_of main = f.only (program_of other) g.file in cc
 
 -- a file isn't accepted and undone

@@ -1,6 +1,6 @@
 -- The walk over the sorts is the sort rules.
 use Rattle.std.proofs.Common.{◌≡◌, ℕ, ℤ, pos, negsuc, ◌^◌, Bool, true, false, cond, Option, Some, None, List, [], ◌∷◌, refl, sym, ap, subst, ◌∙◌}
-use Rattle.std.specs.Prelude.{FitsSigned}
+use Rattle.std.specs.Prelude.{FitsSigned, ◌&&◌, not, is_none, option_map, map}
 use Rattle.std.specs.Int.{w64}
 use Rattle.std.specs.Str.{bytes_eq}
 use lib.Chars.{codes}
@@ -9,12 +9,15 @@ use Rattle.std.proofs.lemmas.Bool.{ltb-true, lt-ltb}
 use Rattle.std.proofs.lemmas.Cmp.{nat_list_eq_equiv}
 use Rattle.pl_syntax.specs.declared.expr.Sort.{Sort}
 use Rattle.pl_syntax.specs.declared.expr.Sort.TheVariants.{I64, RefI64}
-use Rattle.pl_syntax.specs.Tree.{Expr, Int, Var, CellExpr, Whole, Stmt, Load, Alloc, Free, Print, Fun}
-use Rattle.pl_syntax.specs.Sorts.{Scope, sort_of, IsInteger, IsCell, AreSorted, IsMain, IsTyped}
+use Rattle.pl_syntax.specs.declared.program.FunDecl as fun
+use Rattle.pl_syntax.specs.Plain.{plain_stmt, plain_fun}
+use Rattle.pl_syntax.proofs.TreeLaws.{block_list}
+use Rattle.pl_syntax.specs.Tree.{Expr, Int, Var, CellExpr, Whole, Prop, Emp, Stmt, Load, Alloc, Free, Print, FunDecl, list_of}
+use Rattle.pl_syntax.specs.Sorts.{Scope, sort_of, IsInteger, IsCell, AreSorted, IsEmp, IsBare, IsMain, IsTyped}
 use Rattle.pl_top.specs.declared.parsing.Stop.{Stop}
 use Rattle.pl_top.specs.declared.parsing.Stop.TheVariants as stop
 use Rattle.pl_top.specs.Forms.{next, Fails}
-use Rattle.pl_top.specs.Scopes.{Sorts, no_sorts, put, is_i64, is_ref_i64, fits_i64, is_integer, is_cell, sorted_by, all_sorted, FailsToSort, alone}
+use Rattle.pl_top.specs.Scopes.{Sorts, no_sorts, put, is_i64, is_ref_i64, fits_i64, is_integer, is_cell, sorted_by, all_sorted, FailsToSort, is_emp, is_nil, is_bare, alone}
 use Rattle.pl_top.proofs.Sentences.{next_some}
 
 -- sorts that changed at one name alone
@@ -31,13 +34,11 @@ fits_back (negsuc n) f = lt-ltb n (2 ^ 63) f.sfits
 
 i64_is : (o : Option Sort) → is_i64 o ≡ true → o ≡ Some I64
 i64_is (Some I64) e = refl
-i64_is (Some RefI64) e = absurd cc
-i64_is None e = absurd cc
+i64_is _ e = absurd cc
 
 ref_i64_is : (o : Option Sort) → is_ref_i64 o ≡ true → o ≡ Some RefI64
-ref_i64_is (Some I64) e = absurd cc
 ref_i64_is (Some RefI64) e = refl
-ref_i64_is None e = absurd cc
+ref_i64_is _ e = absurd cc
 
 abbrev sorts_in : Scope → Sorts
 sorts_in scope = λ y. sort_of y scope
@@ -45,16 +46,20 @@ sorts_in scope = λ y. sort_of y scope
 integer_is : (scope : Scope) (e : Expr) → is_integer (sorts_in scope) e ≡ true → IsInteger scope e
 integer_is scope (Int p n) h = fits n h
 integer_is scope (Var p x) h = i64_is (sort_of x scope) h
+integer_is scope _ h = absurd cc
 
 integer_back : (scope : Scope) (e : Expr) → IsInteger scope e → is_integer (sorts_in scope) e ≡ true
 integer_back scope (Int p n) h = fits_back n h
 integer_back scope (Var p x) h = ap is_i64 h
+integer_back scope _ h = absurd h
 
 cell_is : (scope : Scope) (c : CellExpr) → is_cell (sorts_in scope) c ≡ true → IsCell scope c
 cell_is scope (Whole base) h = ref_i64_is (sort_of base scope) h
+cell_is scope _ h = absurd cc
 
 cell_back : (scope : Scope) (c : CellExpr) → IsCell scope c → is_cell (sorts_in scope) c ≡ true
 cell_back scope (Whole base) h = ap is_ref_i64 h
+cell_back scope _ h = absurd h
 
 -- a test that let the walk go on
 tested : {A : Type 0} (b : Bool) (s t : A) → cond b (Some s) None ≡ Some t → (b ≡ true) × (s ≡ t)
@@ -87,6 +92,7 @@ sorted_is (Print p v ∷ rest) scope out e =
     let a = next_some (sorted_by (Print p v) (sorts_in scope)) (λ after. all_sorted rest after) out e in
     let h = tested (is_integer (sorts_in scope) v) (sorts_in scope) a.0 a.1 in
     (integer_is scope v h.0, sorted_is rest scope out (ap (all_sorted rest) h.1 ∙ a.2))
+sorted_is (_ ∷ rest) scope out e = absurd cc
 
 -- where the rules are kept, the walk goes on
 goes : (b : Bool) (s : Sorts) (rest : List Stmt) (out : Option Sorts) → b ≡ true → all_sorted rest s ≡ out → next (cond b (Some s) None) (λ after. all_sorted rest after) ≡ out
@@ -111,6 +117,7 @@ sorted_back (Free p x ∷ rest) scope h =
 sorted_back (Print p v ∷ rest) scope h =
     let o = sorted_back rest scope h.1 in
     (o.0, goes (is_integer (sorts_in scope) v) (sorts_in scope) rest (Some o.0) (integer_back scope v h.0) o.1)
+sorted_back (_ ∷ rest) scope h = absurd h
 
 -- want of memory aside
 pub sort_fails : (s : Stop) (list : List Stmt) → Fails s (all_sorted list no_sorts) → FailsToSort s list
@@ -124,14 +131,79 @@ step_fails stop.Memory whole st rest sorts e h = tt
 
 -- ---- programs
 
-pub main_typed : (f : Fun) → f.name ≡ codes "main" → AreSorted [] f.body.list → IsTyped (alone f)
-main_typed f name sorted = (f, refl, (name, sorted))
+-- what is changed inside an option stays there
+pub none_map : {A B : Type 0} (f : A → B) (o : Option A) → is_none (option_map f o) ≡ is_none o
+none_map f None = refl
+none_map f (Some a) = refl
 
-typed_main : (f : Fun) → IsTyped (alone f) → IsMain f
+emp_is : (p : Prop) → is_emp p ≡ true → IsEmp p
+emp_is (Emp p) e = tt
+emp_is _ e = absurd cc
+
+emp_back : (p : Prop) → IsEmp p → is_emp p ≡ true
+emp_back (Emp p) h = refl
+emp_back _ h = absurd h
+
+nil_is : {A : Type 0} (xs : List A) → is_nil xs ≡ true → xs ≡ []
+nil_is [] e = refl
+nil_is (x ∷ xs) e = absurd cc
+
+none_is : {A : Type 0} (o : Option A) → is_none o ≡ true → o ≡ None
+none_is None e = refl
+none_is (Some a) e = absurd cc
+
+no : (b : Bool) → not b ≡ true → b ≡ false
+no true e = absurd cc
+no false e = refl
+
+both : (a b : Bool) → (a && b) ≡ true → (a ≡ true) × (b ≡ true)
+both true b e = (refl, e)
+both false b e = absurd cc
+
+and : (a b : Bool) → a ≡ true → b ≡ true → (a && b) ≡ true
+and true b h k = k
+and false b h k = absurd cc
+
+bare_is : (f : FunDecl) → is_bare f ≡ true → IsBare f
+bare_is f e =
+    let a = not f.is_ghost in
+    let b = is_nil f.params in
+    let c = not f.opens in
+    let d = is_emp f.before in
+    let g = is_none f.result in
+    let h = is_emp f.after in
+    let six = both (a && b && c && d && g && h) (is_none f.measure) e in
+    let five = both (a && b && c && d && g) h six.0 in
+    let four = both (a && b && c && d) g five.0 in
+    let three = both (a && b && c) d four.0 in
+    let two = both (a && b) c three.0 in
+    let one = both a b two.0 in
+    record {
+      real = no f.is_ghost one.0;
+      params = nil_is f.params one.1;
+      opens = no f.opens two.1;
+      before = emp_is f.before three.1;
+      result = none_is f.result four.1;
+      after = emp_is f.after five.1;
+      measure = none_is f.measure six.1;
+    }
+
+bare_back : (f : FunDecl) → IsBare f → is_bare f ≡ true
+bare_back f b =
+    and _ (is_none f.measure) (and _ (is_emp f.after) (and _ (is_none f.result) (and _ (is_emp f.before) (and _ (not f.opens) (and _ (is_nil f.params) (ap not b.real) (ap is_nil b.params)) (ap not b.opens)) (emp_back f.before b.before)) (ap is_none b.result))
+    (emp_back f.after b.after)) (ap is_none b.measure)
+
+pub main_typed : (f : fun.FunDecl) → f.name ≡ codes "main" → is_bare (plain_fun f) ≡ true → AreSorted [] (map plain_stmt f.body.list) → IsTyped (alone (plain_fun f))
+main_typed f name bare sorted = (plain_fun f, refl, record { name = name; bare = bare_is (plain_fun f) bare; statements = subst (AreSorted []) (sym (block_list f.body)) sorted })
+
+typed_main : (f : FunDecl) → IsTyped (alone f) → IsMain f
 typed_main f t = let same : f ≡ t.0 = cc (t.1) in subst IsMain (sym same) t.2
 
-pub named_otherwise : (f : Fun) → (f.name ≡ codes "main" → ⊥) → IsTyped (alone f) → ⊥
-named_otherwise f h t = h (typed_main f t).0
+pub named_otherwise : (f : FunDecl) → (f.name ≡ codes "main" → ⊥) → IsTyped (alone f) → ⊥
+named_otherwise f h t = h (typed_main f t).name
 
-pub not_sorted : (f : Fun) → (AreSorted [] f.body.list → ⊥) → IsTyped (alone f) → ⊥
-not_sorted f h t = h (typed_main f t).1
+pub not_bare : (f : FunDecl) → is_bare f ≡ false → IsTyped (alone f) → ⊥
+not_bare f e t = let k = bare_back f (typed_main f t).bare in absurd cc
+
+pub not_sorted : (f : fun.FunDecl) → (AreSorted [] (map plain_stmt f.body.list) → ⊥) → IsTyped (alone (plain_fun f)) → ⊥
+not_sorted f h t = h (subst (AreSorted []) (block_list f.body) (typed_main (plain_fun f) t).statements)

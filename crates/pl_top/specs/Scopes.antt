@@ -1,10 +1,10 @@
 -- The sort rules as a walk over the statements, with a partial map of the names bound so far.
-use Rattle.std.specs.Prelude.{◌≡◌, ℤ, pos, negsuc, ◌^◌, nat_lt, Bool, true, false, Option, Some, None, List, [], ◌∷◌, Result, Ok, Err, if◌then◌else◌}
+use Rattle.std.specs.Prelude.{◌≡◌, ◌&&◌, not, is_none, ℤ, pos, negsuc, ◌^◌, nat_lt, Bool, true, false, Option, Some, None, List, [], ◌∷◌, Result, Ok, Err, if◌then◌else◌}
 use Rattle.std.specs.Str.{bytes_eq}
 use Rattle.std.specs.HashMap.{get_by}
 use Rattle.pl_syntax.specs.declared.expr.Sort.{Sort}
 use Rattle.pl_syntax.specs.declared.expr.Sort.TheVariants.{I64, RefI64}
-use Rattle.pl_syntax.specs.Tree.{Name, Expr, Int, Var, CellExpr, Whole, Stmt, Load, Alloc, Free, Print, Fun, Function, Program}
+use Rattle.pl_syntax.specs.Tree.{Name, Expr, Int, Var, CellExpr, Whole, Prop, Emp, Stmt, Load, Alloc, Free, Print, FunDecl, Fun, Program}
 use Rattle.pl_syntax.specs.Sorts.{AreSorted}
 use Rattle.pl_top.specs.declared.parsing.Stop.{Stop}
 use Rattle.pl_top.specs.declared.parsing.Stop.TheVariants as stop
@@ -28,13 +28,11 @@ sorts_of n = λ y. get_by (λ k. bytes_eq y k.now) n.sorts
 
 abbrev pub is_i64 : Option Sort → Bool
 is_i64 (Some I64) = true
-is_i64 (Some RefI64) = false
-is_i64 None = false
+is_i64 _ = false
 
 abbrev pub is_ref_i64 : Option Sort → Bool
-is_ref_i64 (Some I64) = false
 is_ref_i64 (Some RefI64) = true
-is_ref_i64 None = false
+is_ref_i64 _ = false
 
 -- whether a number is one of 64 bits with a sign
 abbrev pub fits_i64 : ℤ → Bool
@@ -44,9 +42,11 @@ fits_i64 (negsuc n) = nat_lt n (2 ^ 63)
 abbrev pub is_integer : Sorts → Expr → Bool
 is_integer sorts (Int p n) = fits_i64 n
 is_integer sorts (Var p x) = is_i64 (sorts x)
+is_integer sorts _ = false
 
 abbrev pub is_cell : Sorts → CellExpr → Bool
 is_cell sorts (Whole base) = is_ref_i64 (sorts base)
+is_cell sorts _ = false
 
 -- nothing, where a test fails
 abbrev pub must : Bool → Option (Unit {0})
@@ -58,6 +58,7 @@ sorted_by (Load p x cell is_ghost) sorts = if is_ghost then None else (if is_cel
 sorted_by (Alloc p x e) sorts = if is_integer sorts e then Some (put x RefI64 sorts) else None
 sorted_by (Free p x) sorts = if is_ref_i64 (sorts x) then Some sorts else None
 sorted_by (Print p e) sorts = if is_integer sorts e then Some sorts else None
+sorted_by _ sorts = None
 
 -- the sorts behind statements
 abbrev pub all_sorted : List Stmt → Sorts → Option Sorts
@@ -79,6 +80,19 @@ abbrev pub SortsAll : Result (Unit {0}) Stop → List Stmt → Type 0
 SortsAll (Ok u) list = AreSorted [] list
 SortsAll (Err s) list = FailsToSort s list
 
+-- whether nothing is written
+abbrev pub is_emp : Prop → Bool
+is_emp (Emp p) = true
+is_emp _ = false
+
+abbrev pub is_nil : {A : Type 0} → List A → Bool
+is_nil [] = true
+is_nil (x ∷ xs) = false
+
+-- whether a function is real and has no parameters, clauses and result
+abbrev pub is_bare : FunDecl → Bool
+is_bare f = not f.is_ghost && is_nil f.params && not f.opens && is_emp f.before && is_none f.result && is_emp f.after && is_none f.measure
+
 -- the program of one function
-abbrev pub alone : Fun → Program
-alone f = record { decls = Function f ∷ [] }
+abbrev pub alone : FunDecl → Program
+alone f = record { decls = Fun f ∷ [] }

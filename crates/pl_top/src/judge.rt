@@ -30,7 +30,7 @@ fn plain(alloc: Global, status: u8, text: &[u8]) -> Result<Answer, Memory>
 
 // A program is accepted where no duty of its one function is left undone.
 fn judge_program(alloc: Global, typed: &Typed) -> Result<Answer, Memory>
-    ensures { IfOk result (λ a. (main : t.Fun) → (plain_program typed.now).decls ≡ t.Function main ∷ [] → IsMain main → JudgesMain main a.status a.text.items) }
+    ensures { IfOk result (λ a. (main : t.FunDecl) → (plain_program typed.now).decls ≡ t.Fun main ∷ [] → IsMain main → JudgesMain main a.status a.text.items) }
 {
     let _program = typed.program();
     match walk_function(alloc, typed, 0) {

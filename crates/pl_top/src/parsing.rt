@@ -7,7 +7,7 @@ ghost use Rattle.pl_top.specs.Forms as form;
 ghost use Rattle.pl_top.specs.Forms.{Gives, ReadsBody, ReadsProgram};
 
 use pl_base::{Items, Kind, Memory, Name, Pos, Token};
-use pl_syntax::{CellExpr, Decl, Expr, FunDecl, Program, Stmt, Stmts};
+use pl_syntax::{CellExpr, Decl, Expr, FunDecl, Program, Prop, Stmt, Stmts};
 use std::alloc::{AllocFailed, Global};
 
 /// The words of the language, which are no names.
@@ -373,7 +373,14 @@ pub fn program(alloc: Global, tokens: &[Token]) -> Result<Program, Stop>
     let (list, close) = body(alloc, rest)?;
     let main = FunDecl {
         pos,
+        is_ghost: false,
         name: Name::of(alloc, "main")?,
+        params: Items::of(Vec::new(alloc)),
+        opens: false,
+        before: Prop::Emp(pos),
+        result: None,
+        after: Prop::Emp(pos),
+        measure: None,
         body: Stmts {
             list: Items::of(list),
             close,

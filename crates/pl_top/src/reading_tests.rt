@@ -15,11 +15,12 @@ fn is_file(alloc: Global, bytes: &[u8]) -> Result<bool, Memory> {
     Ok(read(alloc, bytes)?.is_some())
 }
 
-fn place_of(stmt: &Stmt) -> Pos {
+fn place_of(stmt: &Stmt) -> Option<Pos> {
     match stmt {
         Stmt::Load(pos, ..) | Stmt::Alloc(pos, ..) | Stmt::Free(pos, ..) | Stmt::Print(pos, ..) => {
-            *pos
+            Some(*pos)
         }
+        _ => None,
     }
 }
 
@@ -72,15 +73,18 @@ fn other_texts(rt: HostRuntime) -> Result<(), Fail> {
 #[test]
 fn places(rt: HostRuntime) -> Result<(), Fail> {
     let typed = read(rt.alloc(), FIRST)?.ok_or("not read")?;
+    assert_eq!(rt; typed.program().decls.as_slice().len(), 1);
     for decl in typed.program().decls.as_slice() {
-        let Decl::Fun(main) = decl;
+        let Decl::Fun(main) = decl else {
+            return Err("no function".into());
+        };
         assert_eq!(rt; (main.pos.line, main.pos.col, main.pos.byte), (1, 4, 3));
         let close = main.body.close;
         assert_eq!(rt; (close.line, close.col, close.byte), (6, 1, 69));
         let list = main.body.list.as_slice();
         assert_eq!(rt; list.len(), 4);
         for (stmt, byte) in list.iter().zip([14, 34, 48, 60]) {
-            let pos = place_of(stmt);
+            let pos = place_of(stmt).ok_or("another statement")?;
             assert_eq!(rt; pos.byte, byte);
             assert_eq!(rt; pos.col, 3);
         }

@@ -1,13 +1,13 @@
 // Whether a program keeps the sort rules.
-ghost use Rattle.std.specs.Prelude.{◌≡◌, IfOk, OnOk, MatchOption, MatchBool, map};
-ghost use Rattle.pl_syntax.specs.Plain.{plain_expr, plain_cell, plain_stmt, plain_fun, plain_program};
+ghost use Rattle.std.specs.Prelude.{◌≡◌, IfOk, OnOk, MatchOption, MatchBool, map, option_map};
+ghost use Rattle.pl_syntax.specs.Plain.{plain_expr, plain_cell, plain_prop, plain_stmt, plain_fun, plain_program};
 ghost use Rattle.pl_syntax.specs.Sorts.{IsTyped};
 ghost use Rattle.pl_top.specs.Forms.{Gives};
 ghost use Rattle.pl_top.specs.Scopes as scopes;
 
 use crate::parsing::Stop;
 use pl_base::{Memory, Name};
-use pl_syntax::{CellExpr, Decl, Expr, FunDecl, Program, Sort, Stmt, Typed};
+use pl_syntax::{CellExpr, Decl, Expr, FunDecl, Program, Prop, Sort, Stmt, Typed};
 use std::alloc::Global;
 use std::collections::HashMap;
 
@@ -42,10 +42,10 @@ impl<'p> Names<'p> {
         }
     }
 
-    fn sort_of(&self, name: &Name) -> Option<Sort>
-        ensures { result ≡ sorts_of self.now name.now }
+    fn sort_of(&self, name: &Name) -> Option<&Sort>
+        ensures { option_map (λ b. b.now) result ≡ sorts_of self.now name.now }
     {
-        self.sorts.get(name.text()).copied()
+        self.sorts.get(name.text())
     }
 
     fn is_number(&self, name: &Name) -> bool
@@ -53,7 +53,7 @@ impl<'p> Names<'p> {
     {
         match self.sort_of(name) {
             Some(Sort::I64) => true,
-            Some(Sort::RefI64) | None => false,
+            _ => false,
         }
     }
 
@@ -62,7 +62,7 @@ impl<'p> Names<'p> {
     {
         match self.sort_of(name) {
             Some(Sort::RefI64) => true,
-            Some(Sort::I64) | None => false,
+            _ => false,
         }
     }
 
@@ -72,6 +72,7 @@ impl<'p> Names<'p> {
         match e {
             Expr::Int(_, n) => fits_i64(*n),
             Expr::Var(_, name) => self.is_number(name),
+            _ => false,
         }
     }
 
@@ -80,6 +81,7 @@ impl<'p> Names<'p> {
     {
         match cell {
             CellExpr::Whole(base) => self.is_pointer(base),
+            CellExpr::At(..) | CellExpr::Field(..) => false,
         }
     }
 
@@ -106,6 +108,7 @@ impl<'p> Names<'p> {
             }
             Stmt::Free(_, name) => must(self.is_pointer(name)),
             Stmt::Print(_, e) => must(self.is_integer(e)),
+            _ => Err(Stop::Unfit),
         }
     }
 }
@@ -121,12 +124,38 @@ fn sorted(alloc: Global, list: &[Stmt]) -> Result<(), Stop>
     Ok(())
 }
 
+fn is_emp(prop: &Prop) -> bool
+    ensures { result ≡ scopes.is_emp (plain_prop prop.now) }
+{
+    match prop {
+        Prop::Emp(_) => true,
+        _ => false,
+    }
+}
+
+/// Whether a function is real and has no parameters, clauses and result.
+#[tactic(auto, using(crate::proofs::ScopeLaws::none_map))]
+fn is_bare(fun: &FunDecl) -> bool
+    ensures { result ≡ scopes.is_bare (plain_fun fun.now) }
+{
+    !fun.is_ghost
+        && fun.params.as_slice().is_empty()
+        && !fun.opens
+        && is_emp(&fun.before)
+        && fun.result.is_none()
+        && is_emp(&fun.after)
+        && fun.measure.is_none()
+}
+
 /// Tests a program's one function.
-#[tactic(auto, using(crate::proofs::ScopeLaws::main_typed, crate::proofs::ScopeLaws::named_otherwise, crate::proofs::ScopeLaws::not_sorted))]
+#[tactic(auto, using(crate::proofs::ScopeLaws::main_typed, crate::proofs::ScopeLaws::named_otherwise, crate::proofs::ScopeLaws::not_bare, crate::proofs::ScopeLaws::not_sorted))]
 fn is_main(alloc: Global, main: &FunDecl) -> Result<bool, Memory>
     ensures { IfOk result (λ b. MatchBool b (IsTyped (scopes.alone (plain_fun main.now))) (IsTyped (scopes.alone (plain_fun main.now)) → ⊥)) }
 {
     if main.name.text() != "main" {
+        return Ok(false);
+    }
+    if !is_bare(main) {
         return Ok(false);
     }
     match sorted(alloc, main.body.list.as_slice()) {

@@ -4,7 +4,8 @@ use lib.Chars.{codes}
 use Rattle.std.specs.Fmt.{digits, decimal}
 use Rattle.pl_base.specs.declared.pos.Pos.{Pos}
 use Rattle.pl_base.specs.Permission.{whole}
-use Rattle.pl_syntax.specs.Tree.{Name, Int, Var, Whole, Stmt, Load, Alloc, Free, Print, Fun}
+use Rattle.pl_syntax.specs.Grammar as grammar
+use Rattle.pl_syntax.specs.Tree.{Name, Int, Var, Whole, Stmt, Load, Alloc, Free, Print, FunDecl}
 use Rattle.pl_terms.specs.declared.term.Term.TheVariants.{Literal, Variable}
 use Rattle.pl_terms.specs.Terms.{Block}
 use Rattle.pl_terms.specs.Table.{Known, start, allocated, put}
@@ -34,11 +35,11 @@ abbrev pub frees : ℕ → Stmt
 frees line = Free (at line) r
 
 -- a function `main` of these statements
-abbrev pub main_of : List Stmt → Fun
-main_of list = record { pos = at 1; name = codes "main"; body = record { list = list; close = record { line = 5; col = 1; byte = 0 } } }
+abbrev pub main_of : List Stmt → FunDecl
+main_of list = grammar.main_of (at 1) list (record { line = 5; col = 1; byte = 0 })
 
 -- it frees what it allocates
-abbrev pub main : Fun
+abbrev pub main : FunDecl
 main = main_of (prints ++ frees 5 ∷ [])
 
 -- what is known before the free

@@ -4,3 +4,4 @@ pub mod Reaching
 pub mod TextLaws
 pub mod WalkLaws
 pub mod Example
+pub mod BodyLaws

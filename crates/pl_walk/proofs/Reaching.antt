@@ -12,6 +12,7 @@ use Rattle.std.specs.Str.{bytes_eq}
 use Rattle.pl_base.specs.Permission.{whole}
 use Rattle.pl_syntax.specs.declared.expr.Sort.{Sort}
 use Rattle.pl_syntax.specs.declared.expr.Sort.TheVariants.{I64, RefI64}
+use Rattle.pl_syntax.specs.Places.{pos_of}
 use Rattle.pl_syntax.specs.Tree.{Name, Expr, Int, Var, CellExpr, Whole, Stmt, Load, Alloc, Free, Print}
 use Rattle.pl_syntax.specs.Sorts.{Scope, sort_of, IsInteger, IsCell, AreSorted}
 use Rattle.pl_terms.specs.declared.term.Term.{Term}
@@ -19,13 +20,14 @@ use Rattle.pl_terms.specs.declared.term.Term.TheVariants.{Literal}
 use Rattle.pl_walk.specs.declared.walk.Duty.{Duty}
 use Rattle.pl_terms.specs.Terms.{Atom, Points, Block}
 use Rattle.pl_terms.specs.Table.{Names, put, Known, start, term_of, next_of, AllocRule, LoadRule, FreeRule}
-use Rattle.pl_walk.specs.Walk.{WalksOver, Walks, Refuses, pos_of, Stops}
+use Rattle.pl_walk.specs.Walk.{WalksOver, Walks, Refuses, Stops}
 use Rattle.pl_walk.specs.Ready.{IsPointer, IsPointerCell, IsLiteral, Ready}
 
 abbrev AgreesAt : Option Sort → Option Term → Type 0
 AgreesAt None t = Unit {0}
 AgreesAt (Some I64) t = IsLiteral t
 AgreesAt (Some RefI64) t = IsPointer t
+AgreesAt (Some _) t = Unit {0}
 
 -- each name stands for a term of its sort
 pub record Agrees (scope : Scope) (names : Names) : Type 0 where
@@ -60,9 +62,11 @@ module _ (scope : Scope) (names : Names) (agrees : Agrees scope names) where
   literal_of : (e : Expr) → IsInteger scope e → IsLiteral (term_of names e)
   literal_of (Int place n) h = tt
   literal_of (Var place x) h = agrees_at x I64 h
+  literal_of _ h = absurd h
 
   pointer_of : (cell : CellExpr) → IsCell scope cell → IsPointerCell names cell
   pointer_of (Whole c) h = agrees_at c RefI64 h
+  pointer_of _ h = absurd h
 
   -- the first statement finds the terms that it needs
   pub ready : (st : Stmt) (rest : List Stmt) → AreSorted scope (st ∷ rest) → Ready names st
@@ -70,6 +74,7 @@ module _ (scope : Scope) (names : Names) (agrees : Agrees scope names) where
   ready (Alloc place x e) rest h = literal_of e h.0
   ready (Free place x) rest h = agrees_at x RefI64 h.0
   ready (Print place e) rest h = literal_of e h.0
+  ready _ rest h = absurd h
 
   put_at_test : (b : Bool) (s : Sort) (t : Term) (o : Option Sort) (p : Option Term) → AgreesAt (Some s) (Some t) → AgreesAt o p → AgreesAt (cond b (Some s) o) (cond b (Some t) p)
   put_at_test true s t o p h k = h
@@ -112,6 +117,7 @@ goes_on (Load place x (Whole c) is_ghost) rest s t g w = load_goes rest s t g.sc
 goes_on (Alloc place x e) rest s t g w = alloc_goes rest s t g.scope g.agrees g.literals x e g.sorted.0 g.sorted.1 w
 goes_on (Free place x) rest s t g w = free_goes rest s t g.scope g.agrees g.literals x g.sorted.1 w.rule
 goes_on (Print place e) rest s t g w = subst (Goes rest) (sym w.is) record { scope = g.scope; sorted = g.sorted.1; agrees = g.agrees; literals = g.literals }
+goes_on _ rest s t g w = absurd w
 
 -- the walk over a list has come to its statement number i
 pub record Reaches (list : List Stmt) (i : ℕ) (s : Known) : Type 0 where

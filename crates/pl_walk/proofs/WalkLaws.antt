@@ -3,7 +3,8 @@ use Rattle.std.proofs.Common.{◌≡◌, pos, Some, List, [], ◌∷◌, ◌++�
 use Rattle.std.proofs.lemmas.List.Elements.{All-head, All-tail}
 use Rattle.pl_base.specs.declared.pos.Pos.{Pos}
 use Rattle.pl_base.specs.Permission.{whole}
-use Rattle.pl_syntax.specs.Tree.{Name, Expr, Whole, Stmt, Load, Alloc, Free, Print, Fun}
+use Rattle.pl_syntax.specs.Places.{pos_of}
+use Rattle.pl_syntax.specs.Tree.{Name, Expr, Whole, Stmt, Load, Alloc, Free, Print, FunDecl, list_of}
 use Rattle.pl_terms.specs.declared.term.Term.{Term}
 use Rattle.pl_terms.specs.declared.term.Term.TheVariants.{Literal}
 use Rattle.pl_walk.specs.declared.walk.Duty.{Duty}
@@ -11,7 +12,7 @@ use Rattle.pl_walk.specs.declared.walk.Duty.TheVariants.{Leftover}
 use Rattle.pl_terms.specs.Terms.{Atom, Points, Block}
 use Rattle.pl_terms.specs.Table.{Known, start, put, term_of, allocated, AllocRule, Rule}
 use Rattle.pl_deriv.specs.Derivations.{Rules, Derives}
-use Rattle.pl_walk.specs.Walk.{PointsTo, PointsWhole, BlockOf, NoneOf, WalksLoad, WalksFree, WalksOver, Walks, atoms_text, LoadRefused, FreeRefused, BlockRefused, Refuses, pos_of, Stops, Undone, AllDone}
+use Rattle.pl_walk.specs.Walk.{PointsTo, PointsWhole, BlockOf, NoneOf, WalksLoad, WalksFree, WalksOver, Walks, atoms_text, LoadRefused, FreeRefused, BlockRefused, Refuses, Stops, Undone, AllDone}
 
 -- a statement whose duties are done keeps its rule
 pub over_rule : (s : Known) (st : Stmt) (t : Known) → WalksOver s st t → Rule s st t
@@ -19,6 +20,7 @@ over_rule s (Load place x (Whole c) is_ghost) t w = w.rule
 over_rule s (Alloc place x e) t w = w
 over_rule s (Free place x) t w = w.rule
 over_rule s (Print place e) t w = w
+over_rule s _ t w = absurd w
 
 -- so do statements one after another
 pub walks_rules : (s : Known) (list : List Stmt) (t : Known) → Walks s list t → Rules s list t
@@ -26,8 +28,8 @@ walks_rules s [] t w = w
 walks_rules s (st ∷ rest) t w = (w.0, over_rule s st w.0 w.1, walks_rules w.0 rest t w.2)
 
 -- a function of which no duty is left undone derives
-pub all_done_derives : (f : Fun) → AllDone f → Derives f
-all_done_derives f d = record { end = d.end; rules = walks_rules start f.body.list d.end d.walks; none_left = d.none_left }
+pub all_done_derives : (f : FunDecl) → AllDone f → Derives f
+all_done_derives f d = record { end = d.end; rules = walks_rules start (list_of f.body) d.end d.walks; none_left = d.none_left }
 
 -- where no atom of a list does, none of it is one that does
 pub none_here : (P : Atom → Type 0) (front back : List Atom) (a : Atom) → NoneOf P (front ++ a ∷ back) → P a → ⊥
@@ -87,6 +89,7 @@ over_same s (Load place x (Whole c) is_ghost) t u v w = load_same s x c t u v w
 over_same s (Alloc place x e) t u v w = alloc_same s x e t u v w
 over_same s (Free place x) t u v w = free_same s x t u v w
 over_same s (Print place e) t u v w = v.is ∙ sym w.is
+over_same s _ t u v w = absurd v
 
 -- statements one after another lead to one
 pub walks_same : (s : Known) (list : List Stmt) (t u : Known) → Walks s list t → Walks s list u → t ≡ u
@@ -122,9 +125,8 @@ block_not_both s x t duty w q =
 -- a statement that is refused doesn't go well
 pub over_not_both : (s : Known) (st : Stmt) (t : Known) (duty : Duty) → WalksOver s st t → Refuses s st duty → ⊥
 over_not_both s (Load place x (Whole c) is_ghost) t duty w q = load_not_both s x c t duty w q
-over_not_both s (Alloc place x e) t duty w q = q
 over_not_both s (Free place x) t duty w q = elim q [ inl k ↦ free_not_both s x t duty w k | inr k ↦ block_not_both s x t duty w k ]
-over_not_both s (Print place e) t duty w q = q
+over_not_both s _ t duty w q = q
 
 -- a free isn't refused for its cell and for its block
 pub free_not_block : (s : Known) (x : Name) (d e : Duty) → FreeRefused s x d → BlockRefused s x e → ⊥
@@ -135,12 +137,11 @@ free_not_block s x d e h q =
 -- a refused statement leaves one duty undone
 pub refuses_same : (s : Known) (st : Stmt) (d e : Duty) → Refuses s st d → Refuses s st e → d ≡ e
 refuses_same s (Load place x (Whole c) is_ghost) d e h k = h.text ∙ sym k.text
-refuses_same s (Alloc place x a) d e h k = absurd h
 refuses_same s (Free place x) d e (inl h) (inl k) = h.text ∙ sym k.text
 refuses_same s (Free place x) d e (inl h) (inr k) = absurd (free_not_block s x d e h k)
 refuses_same s (Free place x) d e (inr h) (inl k) = absurd (free_not_block s x e d k h)
 refuses_same s (Free place x) d e (inr h) (inr k) = h.text ∙ sym k.text
-refuses_same s (Print place a) d e h k = absurd h
+refuses_same s _ d e h k = absurd h
 
 -- statements that stop don't go well to their end
 pub stops_not_walks : (s : Known) (before : List Stmt) (st : Stmt) (after : List Stmt) (k t : Known) (duty : Duty) → Walks s before k → Refuses k st duty → Walks s (before ++ st ∷ after) t → ⊥
@@ -169,23 +170,23 @@ stops_same s (b ∷ before) (c ∷ before') st st' after after' k k' d e w v r q
     stops_same w.0 before before' st st' after after' k k' d e w.2 (subst (λ u. Walks u before' k') next v.2) r q (cc)
 
 -- a function that stops has no walk to its end
-pub stops_no_end : (f : Fun) (place : Pos) (duty : Duty) (end : Known) → Stops f.body.list place duty → Walks start f.body.list end → ⊥
+pub stops_no_end : (f : FunDecl) (place : Pos) (duty : Duty) (end : Known) → Stops (list_of f.body) place duty → Walks start (list_of f.body) end → ⊥
 stops_no_end f place duty end h w = stops_not_walks start h.before h.stmt h.after h.known end duty h.walks h.refuses (subst (λ l. Walks start l end) h.split w)
 
 -- a duty isn't left undone where none is
-pub not_both : (f : Fun) (place : Pos) (duty : Duty) → AllDone f → Undone f place duty → ⊥
+pub not_both : (f : FunDecl) (place : Pos) (duty : Duty) → AllDone f → Undone f place duty → ⊥
 not_both f place duty d (inl h) = stops_no_end f place duty d.end h d.walks
-not_both f place duty d (inr h) = h.some_left (ap (λ (k : Known). k.atoms) (walks_same start f.body.list h.end d.end h.walks d.walks) ∙ d.none_left)
+not_both f place duty d (inr h) = h.some_left (ap (λ (k : Known). k.atoms) (walks_same start (list_of f.body) h.end d.end h.walks d.walks) ∙ d.none_left)
 
 -- what is left over has one text
 pub leftover_same : (s t : Known) (d e : Duty) → s ≡ t → d ≡ Leftover (atoms_text s.origins s.atoms) → e ≡ Leftover (atoms_text t.origins t.atoms) → d ≡ e
 leftover_same s t d e h p q = p ∙ ap (λ (k : Known). Leftover (atoms_text k.origins k.atoms)) h ∙ sym q
 
 -- the first duty that is left undone is one, at one place
-pub undone_once : (f : Fun) (p q : Pos) (d e : Duty) → Undone f p d → Undone f q e → (p ≡ q) × (d ≡ e)
+pub undone_once : (f : FunDecl) (p q : Pos) (d e : Duty) → Undone f p d → Undone f q e → (p ≡ q) × (d ≡ e)
 undone_once f p q d e (inl h) (inl k) =
     let r = stops_same start h.before k.before h.stmt k.stmt h.after k.after h.known k.known d e h.walks k.walks h.refuses k.refuses (sym h.split ∙ k.split) in
     (h.place ∙ ap pos_of r.0 ∙ sym k.place, r.1)
 undone_once f p q d e (inl h) (inr k) = absurd (stops_no_end f p d k.end h k.walks)
 undone_once f p q d e (inr h) (inl k) = absurd (stops_no_end f q e h.end k h.walks)
-undone_once f p q d e (inr h) (inr k) = (h.place ∙ sym k.place, leftover_same h.end k.end d e (walks_same start f.body.list h.end k.end h.walks k.walks) h.text k.text)
+undone_once f p q d e (inr h) (inr k) = (h.place ∙ sym k.place, leftover_same h.end k.end d e (walks_same start (list_of f.body) h.end k.end h.walks k.walks) h.text k.text)

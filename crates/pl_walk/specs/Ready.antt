@@ -15,11 +15,18 @@ IsLiteral None = ⊥
 IsLiteral (Some (Literal n)) = Unit {0}
 IsLiteral (Some (Variable k)) = ⊥
 
+-- the one cell of a block
+abbrev pub IsWhole : CellExpr → Type 0
+IsWhole (Whole c) = Unit {0}
+IsWhole _ = ⊥
+
 abbrev pub IsPointerCell : Names → CellExpr → Type 0
 IsPointerCell names (Whole c) = IsPointer (names c)
+IsPointerCell names _ = ⊥
 
 abbrev pub Ready : Names → Stmt → Type 0
 Ready names (Load place x cell is_ghost) = IsPointerCell names cell
 Ready names (Alloc place x e) = IsLiteral (term_of names e)
 Ready names (Free place x) = IsPointer (names x)
 Ready names (Print place e) = IsLiteral (term_of names e)
+Ready names _ = ⊥

@@ -1,13 +1,14 @@
 -- What an answer of the walk says, want of memory aside.
 use Rattle.std.specs.Prelude.{◌≡◌, ◌≢◌, [], List, Result, Ok, Err}
 use Rattle.pl_base.specs.declared.pos.Pos.{Pos}
-use Rattle.pl_syntax.specs.Tree.{Stmt, Fun}
+use Rattle.pl_syntax.specs.Tree.{Stmt, FunDecl}
 use Rattle.pl_walk.specs.declared.known.Known as known
 use Rattle.pl_walk.specs.declared.walk.Duty.TheVariants.{Leftover}
 use Rattle.pl_walk.specs.declared.walk.WalkError.{WalkError}
 use Rattle.pl_walk.specs.declared.walk.WalkError.TheVariants as e
 use Rattle.pl_terms.specs.Table.{Known, start}
-use Rattle.pl_walk.specs.Walk.{WalksOver, Refuses, pos_of, Walks, Stops, Undone, AllDone, atoms_text}
+use Rattle.pl_syntax.specs.Places.{pos_of}
+use Rattle.pl_walk.specs.Walk.{WalksOver, Refuses, Walks, Stops, Undone, AllDone, atoms_text}
 use Rattle.pl_walk.specs.Shown.{known_of}
 
 -- of one statement
@@ -29,7 +30,7 @@ EndSays (Err (e.Undone place duty)) close s = (place ≡ close) × (s.atoms ≢ 
 EndSays (Err e.Memory) close s = Unit {0}
 
 -- of a function: Ok exactly where no duty is left undone, else the first that is
-abbrev pub FunctionSays : Result (Unit {0}) WalkError → Fun → Type 0
+abbrev pub FunctionSays : Result (Unit {0}) WalkError → FunDecl → Type 0
 FunctionSays (Ok u) f = AllDone f
 FunctionSays (Err (e.Undone place duty)) f = Undone f place duty
 FunctionSays (Err e.Memory) f = Unit {0}

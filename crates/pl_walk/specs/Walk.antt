@@ -4,7 +4,8 @@ use Rattle.std.specs.Fmt.{signed_decimal}
 use lib.Chars.{codes}
 use Rattle.pl_base.specs.declared.pos.Pos.{Pos}
 use Rattle.pl_base.specs.Permission.{whole}
-use Rattle.pl_syntax.specs.Tree.{Name, Whole, Stmt, Load, Alloc, Free, Print, Fun}
+use Rattle.pl_syntax.specs.Places.{pos_of}
+use Rattle.pl_syntax.specs.Tree.{Name, Whole, Stmt, Load, Alloc, Free, Print, FunDecl, list_of, close_of}
 use Rattle.pl_terms.specs.declared.term.Term.{Term}
 use Rattle.pl_terms.specs.declared.term.Term.TheVariants.{Literal, Variable}
 use Rattle.pl_walk.specs.declared.walk.Duty.{Duty}
@@ -48,6 +49,7 @@ WalksOver s (Load place x (Whole c) is_ghost) t = WalksLoad s x c t
 WalksOver s (Alloc place x e) t = AllocRule s x e t
 WalksOver s (Free place x) t = WalksFree s x t
 WalksOver s (Print place e) t = PrintRule s e t
+WalksOver s _ t = ⊥
 
 -- one statement after another
 abbrev pub Walks : Known → List Stmt → Known → Type 0
@@ -103,16 +105,8 @@ pub record BlockRefused (s : Known) (x : Name) (duty : Duty) : Type 0 where
 -- a statement's first duty that is left undone
 abbrev pub Refuses : Known → Stmt → Duty → Type 0
 Refuses s (Load place x (Whole c) is_ghost) duty = LoadRefused s c duty
-Refuses s (Alloc place x e) duty = ⊥
 Refuses s (Free place x) duty = FreeRefused s x duty ⊎ BlockRefused s x duty
-Refuses s (Print place e) duty = ⊥
-
--- the place of a statement
-abbrev pub pos_of : Stmt → Pos
-pos_of (Load place x cell is_ghost) = place
-pos_of (Alloc place x e) = place
-pos_of (Free place x) = place
-pos_of (Print place e) = place
+Refuses s _ duty = ⊥
 
 -- the statements go well up to one that is refused
 pub record Stops (list : List Stmt) (where_at : Pos) (duty : Duty) : Type 0 where
@@ -126,19 +120,19 @@ pub record Stops (list : List Stmt) (where_at : Pos) (duty : Duty) : Type 0 wher
   pub place : where_at ≡ pos_of stmt
 
 -- all statements go well, and at the closing brace atoms are left over
-pub record LeavesOver (f : Fun) (where_at : Pos) (duty : Duty) : Type 0 where
+pub record LeavesOver (f : FunDecl) (where_at : Pos) (duty : Duty) : Type 0 where
   pub end : Known
-  pub walks : Walks start f.body.list end
+  pub walks : Walks start (list_of f.body) end
   pub some_left : end.atoms ≢ []
   pub text : duty ≡ Leftover (atoms_text end.origins end.atoms)
-  pub place : where_at ≡ f.body.close
+  pub place : where_at ≡ close_of f.body
 
 -- the first duty of a function that is left undone, with its place
-abbrev pub Undone : Fun → Pos → Duty → Type 0
-Undone f place duty = Stops f.body.list place duty ⊎ LeavesOver f place duty
+abbrev pub Undone : FunDecl → Pos → Duty → Type 0
+Undone f place duty = Stops (list_of f.body) place duty ⊎ LeavesOver f place duty
 
 -- no duty of a function is left undone
-pub record AllDone (f : Fun) : Type 0 where
+pub record AllDone (f : FunDecl) : Type 0 where
   pub end : Known
-  pub walks : Walks start f.body.list end
+  pub walks : Walks start (list_of f.body) end
   pub none_left : end.atoms ≡ []

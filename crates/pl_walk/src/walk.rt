@@ -3,7 +3,7 @@ ghost use Rattle.std.specs.Prelude.{◌≡◌, ◌<◌, Bool, length, map, slice
 ghost use Rattle.pl_syntax.specs.Plain.{plain_stmt, plain_expr, plain_cell, plain_fun, plain_program};
 ghost use Rattle.pl_syntax.specs.Tree as t;
 ghost use Rattle.pl_syntax.specs.Sorts.{AreSorted};
-ghost use Rattle.pl_walk.specs.Ready.{Ready, IsPointer, IsPointerCell, IsLiteral};
+ghost use Rattle.pl_walk.specs.Ready.{Ready, IsWhole, IsPointer, IsPointerCell, IsLiteral};
 ghost use Rattle.pl_walk.specs.Says.{StatementSays, ListSays, EndSays, FunctionSays};
 ghost use Rattle.pl_walk.specs.Shown.{known_of};
 ghost use Rattle.pl_terms.specs.Table.{term_of};
@@ -64,15 +64,18 @@ fn value(known: &Known, e: &Expr) -> Term
             Some(term) => term,
             None => unreachable!(),
         },
+        _ => unreachable!(),
     }
 }
 
 // The name of a cell's base.
 fn base_of(cell: &CellExpr) -> &Name
+    requires { IsWhole (plain_cell cell.now) }
     ensures { plain_cell cell.now ≡ t.Whole result.now }
 {
     match cell {
         CellExpr::Whole(base) => base,
+        CellExpr::At(..) | CellExpr::Field(..) => unreachable!(),
     }
 }
 
@@ -145,6 +148,7 @@ fn walk_statement<'p>(alloc: Global, stmt: &'p Stmt, known: &mut Known<'p>) -> R
             let _printed = value(known, e);
             Ok(())
         }
+        _ => unreachable!(),
     }
 }
 
@@ -181,9 +185,10 @@ fn walk_body(alloc: Global, fun: &FunDecl) -> Result<(), WalkError>
 /// else the first that is.
 pub fn walk_function(alloc: Global, typed: &Typed, k: u32) -> Result<(), WalkError>
     requires { k < length (plain_program typed.now).decls }
-    ensures { (f : t.Fun) → slice_get (plain_program typed.now).decls k ≡ Some (t.Function f) → FunctionSays result f }
+    ensures { (f : t.FunDecl) → slice_get (plain_program typed.now).decls k ≡ Some (t.Fun f) → FunctionSays result f }
 {
     match &typed.program().decls.as_slice()[k as usize] {
         Decl::Fun(fun) => walk_body(alloc, fun),
+        Decl::Struct(_) | Decl::Pred(_) => unreachable!(),
     }
 }

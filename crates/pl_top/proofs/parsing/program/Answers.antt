@@ -1,10 +1,11 @@
-use Rattle.std.proofs.Common.{◌≡◌, map, sym, subst, refl}
+use Rattle.std.proofs.Common.{◌≡◌, map, sym, ap, subst}
 use Rattle.std.proofs.lemmas.Result.{err_from_is_err_and}
 use Rattle.pl_syntax.specs.Tree.{Program}
 use Rattle.pl_syntax.specs.Plain.{plain_stmt, plain_program}
 use Rattle.pl_syntax.specs.Grammar.{IsProgram}
 use Rattle.pl_top.specs.Forms.{header_at}
-use Rattle.pl_top.proofs.Bodies.{program_of, program_is, no_header, no_body, program_fails, program_fails_behind}
+use Rattle.pl_syntax.proofs.TreeLaws.{block_is}
+use Rattle.pl_top.proofs.Bodies.{made_of, program_of, program_is, no_header, no_body, program_fails, program_fails_behind}
 use Rattle.pl_top.proofs.parsing.program.Goals as goal
 
 pub returns-in_err-pos : goal.returns-in_err-pos
@@ -20,6 +21,9 @@ returns-in_err-list c =
 pub returns : goal.returns
 returns c =
     let list = map plain_stmt c.in_ok-list.list.items in
-    let e : plain_program (record { decls = c.of-3.result }) ≡ program_of c.in_ok-pos.pos list c.in_ok-list.close = rw (c.of-3.ensures, c.in_ok-push.ensures.items, c.new-decls.ensures.items, c.of-2.ensures, c.in_ok-of.ensures) refl in
+    let pos = c.in_ok-pos.pos in
+    let block = block_is (record { list = c.in_ok-list.list.items; close = c.in_ok-list.close }) in
+    let e : plain_program (record { decls = c.of-4.result }) ≡ program_of pos list c.in_ok-list.close =
+    rw (c.of-4.ensures, c.in_ok-push.ensures.items, c.new-decls.ensures.items, c.of-3.ensures, c.of-2.ensures, c.new.ensures.items, c.in_ok-of.ensures) (ap (made_of pos) block) in
     subst (λ (z : Program). IsProgram z c.args.tokens.now × ((p : Program) → IsProgram p c.args.tokens.now → p ≡ z)) (sym e)
     (program_is c.args.tokens.now c.in_ok-pos.pos c.in_ok-pos.rest.now list c.in_ok-list.close c.in_ok-pos.ensures c.in_ok-list.ensures)
