@@ -1,5 +1,7 @@
 -- Lines of bytes, and which line of a text is the first that no history has.
 use Rattle.std.specs.Prelude.{◌≡◌, ℕ, zero, suc, ◌+◌, ◌-◌, ◌≤◌, ◌==◌, if◌then◌else◌, List, [], ◌∷◌, ◌++◌, Result, Ok, Err}
+use Rattle.pl_readers.specs.declared.error.ReadError.{ReadError}
+use Rattle.pl_readers.specs.declared.error.ReadError.TheVariants as read
 use Rattle.c_meaning.specs.declared.action.History.{History}
 use Rattle.c_history.specs.declared.error.HistoryError.{HistoryError}
 use Rattle.c_history.specs.declared.error.HistoryError.TheVariants as error
@@ -39,6 +41,11 @@ pub record IsRefusedLine (bytes : List ℕ) (n : ℕ) : Type 0 where
 abbrev pub IfBadHistory : HistoryError → (ℕ → Type 0) → Type 0
 IfBadHistory (error.BadHistory n) P = P n
 IfBadHistory error.Memory P = Unit {0}
+
+-- a reader's error at a line
+abbrev pub error_at : ReadError → ℕ → HistoryError
+error_at (read.Stop s) n = error.BadHistory n
+error_at read.Memory n = error.Memory
 
 -- the answer is this history, but for want of memory
 abbrev pub IsReadAs : Result History HistoryError → History → Type 0

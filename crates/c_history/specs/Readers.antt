@@ -1,5 +1,5 @@
 -- The readers of the lines of a history, for private functions alone: lemmas tie them to the texts of `Text`.
-use Rattle.std.specs.Prelude.{◌≡◌, ℕ, zero, suc, ◌+◌, ◌^◌, ◌==◌, ℤ, pos, negsuc, Bool, true, false, cond, List, [], ◌∷◌, ◌++◌, codes, length, take, drop, flat_map, Err, Ok}
+use Rattle.std.specs.Prelude.{◌≡◌, ℕ, zero, suc, ◌+◌, ◌^◌, ◌==◌, ℤ, pos, negsuc, Bool, true, false, cond, List, [], ◌∷◌, ◌++◌, codes, length, take, drop, flat_map, Option, Some, None, Err, Ok}
 use Rattle.std.specs.List.{prefix_len, AllByRecursion}
 use Rattle.std.specs.Char.{is_ascii_lowercase}
 use Rattle.std.specs.Str.{bytes_eq}
@@ -12,6 +12,8 @@ use Rattle.pl_resource.specs.declared.value.Value.TheVariants as value
 use Rattle.c_meaning.specs.declared.action.Action.{Action}
 use Rattle.c_meaning.specs.declared.action.Action.TheVariants as act
 use Rattle.c_meaning.specs.declared.action.Event.{Event}
+use Rattle.c_history.specs.declared.verbs.Verb.{Verb}
+use Rattle.c_history.specs.declared.verbs.Verb.TheVariants as verb
 use Rattle.c_history.specs.Text.{event_line}
 use Rattle.c_history.specs.Bounds.{IsEventWithin}
 
@@ -69,33 +71,56 @@ made = pair (numbered (codes " b")) (numbered (codes " "))
 abbrev pub done : Unit {0}
 done = tt
 
--- what stands behind the verb of an action
-unfoldable pub arguments : List ℕ → Reader ℕ Action
-arguments verb xs =
-    cond (bytes_eq verb (codes "load")) (mapped (λ p. act.Load p.0 p.1) access xs)
-    (cond (bytes_eq verb (codes "store")) (mapped (λ p. act.Store p.0 p.1) access xs)
-    (cond (bytes_eq verb (codes "cas")) (mapped (λ p. act.Cas p.0 p.1.0 p.1.1) swap xs)
-    (cond (bytes_eq verb (codes "alloc")) (mapped (λ p. act.Alloc p.0 p.1) made xs)
-    (cond (bytes_eq verb (codes "free")) (mapped act.Free (numbered (codes " b")) xs)
-    (cond (bytes_eq verb (codes "newlock")) (mapped act.NewLock (numbered (codes " k")) xs)
-    (cond (bytes_eq verb (codes "acquire")) (mapped act.Acquire (numbered (codes " k")) xs)
-    (cond (bytes_eq verb (codes "release")) (mapped act.Release (numbered (codes " k")) xs)
-    (cond (bytes_eq verb (codes "freelock")) (mapped act.FreeLock (numbered (codes " k")) xs)
-    (cond (bytes_eq verb (codes "fork")) (mapped act.Fork (numbered (codes " ")) xs)
-    (cond (bytes_eq verb (codes "join")) (mapped act.Join (numbered (codes " ")) xs)
-    (cond (bytes_eq verb (codes "print")) (mapped act.Print (behind (codes " ") signed) xs)
-    (cond (bytes_eq verb (codes "read")) (mapped act.Read (behind (codes " ") signed) xs)
-    (cond (bytes_eq verb (codes "turn")) (mapped (λ _. act.Turn) (nothing done) xs)
-    (cond (bytes_eq verb (codes "call")) (mapped act.Call (numbered (codes " ")) xs)
-    (cond (bytes_eq verb (codes "return")) (mapped (λ _. act.Return) (nothing done) xs)
-    (refuse xs))))))))))))))))
+-- the verb that a word is
+unfoldable pub verb_of : List ℕ → Option Verb
+verb_of word =
+    cond (bytes_eq word (codes "freelock")) (Some verb.FreeLock)
+    (cond (bytes_eq word (codes "newlock")) (Some verb.NewLock)
+    (cond (bytes_eq word (codes "acquire")) (Some verb.Acquire)
+    (cond (bytes_eq word (codes "release")) (Some verb.Release)
+    (cond (bytes_eq word (codes "return")) (Some verb.Return)
+    (cond (bytes_eq word (codes "print")) (Some verb.Print)
+    (cond (bytes_eq word (codes "store")) (Some verb.Store)
+    (cond (bytes_eq word (codes "alloc")) (Some verb.Alloc)
+    (cond (bytes_eq word (codes "load")) (Some verb.Load)
+    (cond (bytes_eq word (codes "cas")) (Some verb.Cas)
+    (cond (bytes_eq word (codes "free")) (Some verb.Free)
+    (cond (bytes_eq word (codes "fork")) (Some verb.Fork)
+    (cond (bytes_eq word (codes "join")) (Some verb.Join)
+    (cond (bytes_eq word (codes "read")) (Some verb.Read)
+    (cond (bytes_eq word (codes "turn")) (Some verb.Turn)
+    (cond (bytes_eq word (codes "call")) (Some verb.Call)
+    None)))))))))))))))
+
+-- what stands behind a verb
+unfoldable pub arguments : Verb → Reader ℕ Action
+arguments verb.Load xs = mapped (λ p. act.Load p.0 p.1) access xs
+arguments verb.Store xs = mapped (λ p. act.Store p.0 p.1) access xs
+arguments verb.Cas xs = mapped (λ p. act.Cas p.0 p.1.0 p.1.1) swap xs
+arguments verb.Alloc xs = mapped (λ p. act.Alloc p.0 p.1) made xs
+arguments verb.Free xs = mapped act.Free (numbered (codes " b")) xs
+arguments verb.NewLock xs = mapped act.NewLock (numbered (codes " k")) xs
+arguments verb.Acquire xs = mapped act.Acquire (numbered (codes " k")) xs
+arguments verb.Release xs = mapped act.Release (numbered (codes " k")) xs
+arguments verb.FreeLock xs = mapped act.FreeLock (numbered (codes " k")) xs
+arguments verb.Fork xs = mapped act.Fork (numbered (codes " ")) xs
+arguments verb.Join xs = mapped act.Join (numbered (codes " ")) xs
+arguments verb.Print xs = mapped act.Print (behind (codes " ") signed) xs
+arguments verb.Read xs = mapped act.Read (behind (codes " ") signed) xs
+arguments verb.Turn xs = mapped (λ _. act.Turn) (nothing done) xs
+arguments verb.Call xs = mapped act.Call (numbered (codes " ")) xs
+arguments verb.Return xs = mapped (λ _. act.Return) (nothing done) xs
+
+abbrev pub behind_verb : Option Verb → Reader ℕ Action
+behind_verb (Some v) xs = arguments v xs
+behind_verb None xs = refuse xs
 
 -- how many lower letters stand in front
 abbrev pub verb_len : List ℕ → ℕ
 verb_len xs = prefix_len is_ascii_lowercase xs
 
 unfoldable pub action : Reader ℕ Action
-action xs = arguments (take (verb_len xs) xs) (drop (verb_len xs) xs)
+action xs = behind_verb (verb_of (take (verb_len xs) xs)) (drop (verb_len xs) xs)
 
 -- the line of an event
 unfoldable pub line : Reader ℕ Event

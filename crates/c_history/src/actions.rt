@@ -5,6 +5,7 @@ ghost use Rattle.pl_readers.specs.Given.{Gives};
 ghost use Rattle.c_history.specs.Readers as read;
 
 use crate::fields::{cell, numbered, signed, truth, value};
+use crate::verbs::{Verb, verb_of};
 use c_meaning::Action;
 use pl_readers::bytes::word;
 use pl_readers::{ReadError, refused};
@@ -41,70 +42,87 @@ fn made(bytes: &[u8]) -> Result<(u32, u32, &[u8]), ReadError>
     Ok((block, count, rest))
 }
 
+/// What stands behind a verb.
 #[tactic(auto, unfolding(crate::specs::Readers::arguments))]
-fn arguments<'a>(verb: &[u8], rest: &'a [u8]) -> Result<(Action, &'a [u8]), ReadError>
-    ensures { Gives (λ x. (x.0, x.1.now)) result (read.arguments verb.now rest.now) }
+fn arguments(verb: Verb, rest: &[u8]) -> Result<(Action, &[u8]), ReadError>
+    ensures { Gives (λ x. (x.0, x.1.now)) result (read.arguments verb rest.now) }
 {
     match verb {
-        b"load" => {
+        Verb::Load => {
             let (cell, value, rest) = access(rest)?;
             Ok((Action::Load(cell, value), rest))
         }
-        b"store" => {
+        Verb::Store => {
             let (cell, value, rest) = access(rest)?;
             Ok((Action::Store(cell, value), rest))
         }
-        b"cas" => {
+        Verb::Cas => {
             let (cell, seen, stored, rest) = swap(rest)?;
             Ok((Action::Cas(cell, seen, stored), rest))
         }
-        b"alloc" => {
+        Verb::Alloc => {
             let (block, count, rest) = made(rest)?;
             Ok((Action::Alloc(block, count), rest))
         }
-        b"free" => {
+        Verb::Free => {
             let (block, rest) = numbered(rest, b" b")?;
             Ok((Action::Free(block), rest))
         }
-        b"newlock" => {
+        Verb::NewLock => {
             let (lock, rest) = numbered(rest, b" k")?;
             Ok((Action::NewLock(lock), rest))
         }
-        b"acquire" => {
+        Verb::Acquire => {
             let (lock, rest) = numbered(rest, b" k")?;
             Ok((Action::Acquire(lock), rest))
         }
-        b"release" => {
+        Verb::Release => {
             let (lock, rest) = numbered(rest, b" k")?;
             Ok((Action::Release(lock), rest))
         }
-        b"freelock" => {
+        Verb::FreeLock => {
             let (lock, rest) = numbered(rest, b" k")?;
             Ok((Action::FreeLock(lock), rest))
         }
-        b"fork" => {
+        Verb::Fork => {
             let (child, rest) = numbered(rest, b" ")?;
             Ok((Action::Fork(child), rest))
         }
-        b"join" => {
+        Verb::Join => {
             let (child, rest) = numbered(rest, b" ")?;
             Ok((Action::Join(child), rest))
         }
-        b"print" => {
+        Verb::Print => {
             let (n, rest) = signed(word(rest, b" ")?)?;
             Ok((Action::Print(n), rest))
         }
-        b"read" => {
+        Verb::Read => {
             let (n, rest) = signed(word(rest, b" ")?)?;
             Ok((Action::Read(n), rest))
         }
-        b"turn" => Ok((Action::Turn, rest)),
-        b"call" => {
+        Verb::Turn => Ok((Action::Turn, rest)),
+        Verb::Call => {
             let (function, rest) = numbered(rest, b" ")?;
             Ok((Action::Call(function), rest))
         }
-        b"return" => Ok((Action::Return, rest)),
-        _ => Err(refused(rest)),
+        Verb::Return => Ok((Action::Return, rest)),
+    }
+}
+
+/// How many lower letters stand in front.
+fn letters(bytes: &[u8]) -> usize
+    ensures value { result ≡ read.verb_len bytes.now }
+    ensures within { result ≤ length bytes.now }
+{
+    bytes.iter().take_while(|b| b.is_ascii_lowercase()).count()
+}
+
+fn verb(word: &[u8]) -> Option<Verb>
+    ensures { result ≡ read.verb_of word.now }
+{
+    match str::from_utf8(word) {
+        Ok(text) => verb_of(text),
+        Err(_) => None,
     }
 }
 
@@ -113,7 +131,9 @@ fn arguments<'a>(verb: &[u8], rest: &'a [u8]) -> Result<(Action, &'a [u8]), Read
 pub(crate) fn action(bytes: &[u8]) -> Result<(Action, &[u8]), ReadError>
     ensures { Gives (λ x. (x.0, x.1.now)) result (read.action bytes.now) }
 {
-    let letters = bytes.iter().take_while(|b| b.is_ascii_lowercase()).count();
-    let (verb, rest) = bytes.split_at(letters);
-    arguments(verb, rest)
+    let (word, rest) = bytes.split_at(letters(bytes));
+    match verb(word) {
+        Some(verb) => arguments(verb, rest),
+        None => Err(refused(rest)),
+    }
 }

@@ -6,6 +6,7 @@ mod error;
 mod fields;
 mod reading;
 mod replaying;
+mod verbs;
 mod writing;
 
 pub use error::HistoryError;

@@ -5,7 +5,7 @@ ghost use Rattle.pl_readers.specs.Given.{Gives};
 ghost use Rattle.c_meaning.specs.declared.action.History.{History};
 ghost use Rattle.c_history.specs.Text.{history_text};
 ghost use Rattle.c_history.specs.Bounds.{IsWithin};
-ghost use Rattle.c_history.specs.Lines.{IfBadHistory, IsReadAs, IsRefusedLine, IsTextOf};
+ghost use Rattle.c_history.specs.Lines.{error_at, IfBadHistory, IsReadAs, IsRefusedLine, IsTextOf};
 ghost use Rattle.c_history.specs.Readers as read;
 
 use crate::actions::action;
@@ -59,6 +59,7 @@ fn last(bytes: &[u8], count: u32) -> Result<&[u8], ReadError>
 }
 
 fn at_line(error: ReadError, line: u32) -> HistoryError
+    ensures { result ≡ error_at error line }
 {
     match error {
         ReadError::Memory => HistoryError::Memory,
