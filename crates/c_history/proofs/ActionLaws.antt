@@ -178,13 +178,13 @@ print_text n rest = simp append_assoc
 read_text : (n : ℤ) (rest : List ℕ) → codes "read" ++ ((codes " " ++ signed_decimal n) ++ rest) ≡ action_text (act.Read n) ++ rest
 read_text n rest = simp append_assoc
 
-turn_text :  (rest : List ℕ) → codes "turn" ++ ([] ++ rest) ≡ action_text (act.Turn) ++ rest
+turn_text : (rest : List ℕ) → codes "turn" ++ ([] ++ rest) ≡ action_text (act.Turn) ++ rest
 turn_text rest = refl
 
 call_text : (n : ℕ) (rest : List ℕ) → codes "call" ++ ((codes " " ++ decimal n) ++ rest) ≡ action_text (act.Call n) ++ rest
 call_text n rest = simp append_assoc
 
-return_text :  (rest : List ℕ) → codes "return" ++ ([] ++ rest) ≡ action_text (act.Return) ++ rest
+return_text : (rest : List ℕ) → codes "return" ++ ([] ++ rest) ≡ action_text (act.Return) ++ rest
 return_text rest = refl
 
 module _ (xs : List ℕ) (a : Action) (rest : List ℕ) where
@@ -460,9 +460,9 @@ line_found xs e rest h =
     let one : ((u.0.0, z.0.0), z.0.1) ≡ y.0 = fine_is ((u.0.0, z.0.0), z.0.1) y.0 z.2 in
     let two : ((x.0.0, y.0.0), y.0.1) ≡ w.0 = fine_is ((x.0.0, y.0.0), y.0.1) w.0 y.2 in
     let three : (record { tid = x.0.0; action = u.0.0 }, z.0.1) ≡ (e, rest) =
-        ap (λ (p : (Action × Unit {0}) × List ℕ). (made_event x.0.0 p.0.0, p.1)) one ∙ ap (λ (p : (ℕ × (Action × Unit {0})) × List ℕ). (made_event p.0.0 p.0.1.0, p.1)) two ∙ is in
+    ap (λ (p : (Action × Unit {0}) × List ℕ). (made_event x.0.0 p.0.0, p.1)) one ∙ ap (λ (p : (ℕ × (Action × Unit {0})) × List ℕ). (made_event p.0.0 p.0.1.0, p.1)) two ∙ is in
     let text : xs ≡ event_line (made_event x.0.0 u.0.0) ++ z.0.1 =
-        tid.1 ∙ ap (λ (s : List ℕ). decimal x.0.0 ++ s) (blank.1 ∙ ap (λ (s : List ℕ). codes " " ++ s) (act.1 ∙ ap (λ (s : List ℕ). action_text u.0.0 ++ s) end.1)) ∙ regroup (decimal x.0.0) (action_text u.0.0) z.0.1 in
+    tid.1 ∙ ap (λ (s : List ℕ). decimal x.0.0 ++ s) (blank.1 ∙ ap (λ (s : List ℕ). codes " " ++ s) (act.1 ∙ ap (λ (s : List ℕ). action_text u.0.0 ++ s) end.1)) ∙ regroup (decimal x.0.0) (action_text u.0.0) z.0.1 in
     subst (λ (p : Event × List ℕ). IsEventWithin p.0 × (xs ≡ event_line p.0 ++ p.1)) three ((tid.0, act.0), text)
 
 abbrev last_front : ℕ → List ℕ

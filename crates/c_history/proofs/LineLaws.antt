@@ -268,7 +268,7 @@ splits (d ∷ es) [] rest n all each e =
     absurd (ok_or_err (line (event_line d ++ (flat_map event_line es ++ rest))) (d, flat_map event_line es ++ rest) none.0 (line_takes d (flat_map event_line es ++ rest) all.0) (ap line (sym begins ∙ sym (append-nil (last_line n))) ∙ none.1))
 splits (d ∷ es) (f ∷ fs) rest n all each e =
     let one : event_line f ++ (flat_map event_line fs ++ last_line n) ≡ event_line d ++ (flat_map event_line es ++ rest) =
-        sym (ap (λ (b : List ℕ). b ++ last_line n) (flat_map-cons event_line f fs) ∙ append_assoc (event_line f) (flat_map event_line fs) (last_line n)) ∙ e ∙ ap (λ (b : List ℕ). b ++ rest) (flat_map-cons event_line d es) ∙ append_assoc (event_line d) (flat_map event_line es) rest in
+    sym (ap (λ (b : List ℕ). b ++ last_line n) (flat_map-cons event_line f fs) ∙ append_assoc (event_line f) (flat_map event_line fs) (last_line n)) ∙ e ∙ ap (λ (b : List ℕ). b ++ rest) (flat_map-cons event_line d es) ∙ append_assoc (event_line d) (flat_map event_line es) rest in
     let same = ok_is f d (flat_map event_line fs ++ last_line n) (flat_map event_line es ++ rest) (sym (line_takes f (flat_map event_line fs ++ last_line n) each.0) ∙ ap line one ∙ line_takes d (flat_map event_line es ++ rest) all.0) in
     let h = splits es fs rest n all.1 each.1 same.1 in
     record { more = h.more; is = ap (λ (x : Event). x ∷ fs) same.0 ∙ ap (λ (xs : List Event). d ∷ xs) h.is; text = h.text; within = h.within }
@@ -301,24 +301,37 @@ pub first_refused : (bytes : List ℕ) (s : Stop) → word first_line bytes ≡ 
 first_refused bytes s e =
     refused_behind 0 bytes [] bytes refl no_line
     (history_of [], history_text (history_of []), record { within = within_of [] (omega arith) tt; text = refl })
-    (λ h more w text. inr (codes "pulse-history 1", flat_map event_line h.events ++ last_line (length h.events), sym text ∙ text_parts h, refl,
-    λ behind is. ok_or_err (word first_line bytes) (tt, behind) s (ap (word first_line) is ∙ word_takes first_line behind) e))
+    (λ h more w text. inr (
+      codes "pulse-history 1",
+      flat_map event_line h.events ++ last_line (length h.events),
+      sym text ∙ text_parts h,
+      refl,
+      λ behind is. ok_or_err (word first_line bytes) (tt, behind) s (ap (word first_line) is ∙ word_takes first_line behind) e,
+    ))
 
 module _ (bytes : List ℕ) (es : List Event) (rest : List ℕ) (s : Stop) (parts : bytes ≡ front_of es ++ rest) (all : AllByRecursion IsEventWithin es) (few : IsU32 (length es)) (ends : line rest ≡ Err s) where
   refutes_next : (t : Stop) → last (length es) rest ≡ Err t → (more : List Event) (n : ℕ) (text : List ℕ) → text ≡ flat_map event_line more ++ last_line n → AllByRecursion IsEventWithin more → n ≡ length (es ++ more) → Refutes rest text
   refutes_next t e [] n text is each count =
-      inr (codes "end " ++ decimal n, [], is, decimal_inside n (rw (count, append-nil) few),
-      λ behind at.
-      let same : n ≡ length es = count ∙ ap length (append-nil es) in
-      let begins : rest ≡ last_line (length es) ++ behind = at ∙ sym (append_assoc (codes "end " ++ decimal n) (codes "\n") behind) ∙ ap (λ (k : ℕ). last_line k ++ behind) same in
-      ok_or_err (last (length es) rest) (done, behind) t (ap (last (length es)) begins ∙ last_takes (length es) behind few) e)
+      inr (
+        codes "end " ++ decimal n,
+        [],
+        is,
+        decimal_inside n (rw (count, append-nil) few),
+        λ behind at.
+            let same : n ≡ length es = count ∙ ap length (append-nil es) in
+            let begins : rest ≡ last_line (length es) ++ behind = at ∙ sym (append_assoc (codes "end " ++ decimal n) (codes "\n") behind) ∙ ap (λ (k : ℕ). last_line k ++ behind) same in
+            ok_or_err (last (length es) rest) (done, behind) t (ap (last (length es)) begins ∙ last_takes (length es) behind few) e,
+      )
   refutes_next t e (d ∷ more) n text is each count =
-      inr (event_text d, flat_map event_line more ++ last_line n,
-      is ∙ ap (λ (b : List ℕ). b ++ last_line n) (flat_map-cons event_line d more) ∙ append_assoc (event_line d) (flat_map event_line more) (last_line n) ∙ append_assoc (event_text d) (codes "\n") (flat_map event_line more ++ last_line n),
-      event_inside d each.0,
-      λ behind at.
-      let begins : rest ≡ event_line d ++ behind = at ∙ sym (append_assoc (event_text d) (codes "\n") behind) in
-      ok_or_err (line rest) (d, behind) s (ap line begins ∙ line_takes d behind each.0) ends)
+      inr (
+        event_text d,
+        flat_map event_line more ++ last_line n,
+        is ∙ ap (λ (b : List ℕ). b ++ last_line n) (flat_map-cons event_line d more) ∙ append_assoc (event_line d) (flat_map event_line more) (last_line n) ∙ append_assoc (event_text d) (codes "\n") (flat_map event_line more ++ last_line n),
+        event_inside d each.0,
+        λ behind at.
+            let begins : rest ≡ event_line d ++ behind = at ∙ sym (append_assoc (event_text d) (codes "\n") behind) in
+            ok_or_err (line rest) (d, behind) s (ap line begins ∙ line_takes d behind each.0) ends,
+      )
 
   pub next_refused : (t : Stop) → last (length es) rest ≡ Err t → IsRefusedLine bytes (length es + 2)
   next_refused t e =
@@ -341,8 +354,8 @@ module _ (bytes : List ℕ) (es : List Event) (rest : List ℕ) (s : Stop) (part
   end_refused behind e some =
       let k : 1 + length es + 1 + 1 ≡ length es + 3 = omega arith in
       let whole_text : bytes ≡ history_text (history_of es) ++ behind =
-          parts ∙ ap (λ (b : List ℕ). front_of es ++ b) (last_found (length es) rest done behind e)
-          ∙ sym (append_assoc (front_of es) (last_line (length es)) behind) ∙ ap (λ (b : List ℕ). b ++ behind) (append_assoc first_line (flat_map event_line es) (last_line (length es)) ∙ sym (text_parts (history_of es))) in
+      parts ∙ ap (λ (b : List ℕ). front_of es ++ b) (last_found (length es) rest done behind e)
+      ∙ sym (append_assoc (front_of es) (last_line (length es)) behind) ∙ ap (λ (b : List ℕ). b ++ behind) (append_assoc first_line (flat_map event_line es) (last_line (length es)) ∙ sym (text_parts (history_of es))) in
       subst (IsRefusedLine bytes) k
       (refused_behind (1 + length es + 1) bytes (history_text (history_of es)) behind whole_text
       (subst (IsWhole (1 + length es + 1)) (append_assoc first_line (flat_map event_line es) (last_line (length es)) ∙ sym (text_parts (history_of es)))
@@ -371,7 +384,7 @@ only_end es (d ∷ more) n m is each =
 pub one_history : (g h : History) (bytes : List ℕ) → IsTextOf g bytes → IsTextOf h bytes → g ≡ h
 one_history g h bytes s t =
     let p = splits_text g.events (last_line (length g.events)) h s.within.events t.within
-        (sym t.text ∙ s.text ∙ text_parts g ∙ sym (append_assoc first_line (flat_map event_line g.events) (last_line (length g.events)))) in
+    (sym t.text ∙ s.text ∙ text_parts g ∙ sym (append_assoc first_line (flat_map event_line g.events) (last_line (length g.events)))) in
     let none = only_end g.events p.more (length h.events) (length g.events) p.text p.within in
     sym (ap history_of (p.is ∙ ap (λ (xs : List Event). g.events ++ xs) none ∙ append-nil g.events))
 
@@ -383,6 +396,34 @@ first_front : (n : ℕ) (bytes : List ℕ) → (more : List ℕ) × (first_lines
 first_front n [] = ([], refl)
 first_front zero (c ∷ bytes) = (c ∷ bytes, refl)
 first_front (suc n) (c ∷ bytes) = front_at n c bytes (c == 10) refl (first_front n bytes) (first_front (suc n) bytes)
+
+-- with fewer lines a text begins a history too
+fewer_at : (m n c : ℕ) (bytes : List ℕ) → m ≤ n → (t : Bool) → (c == 10) ≡ t → ((k j : ℕ) → k ≤ j → (more : List ℕ) × (first_lines j bytes ≡ first_lines k bytes ++ more)) → (more : List ℕ) × (first_lines n (c ∷ bytes) ≡ first_lines m (c ∷ bytes) ++ more)
+fewer_at zero n c bytes le t is ih = (first_lines n (c ∷ bytes), refl)
+fewer_at (suc m) zero c bytes le t is ih = absurd (omega arith)
+fewer_at (suc m) (suc n) c bytes le true is ih = let h = ih m n (omega arith) in (h.0, rw is (ap (λ (xs : List ℕ). c ∷ xs) h.1))
+fewer_at (suc m) (suc n) c bytes le false is ih = let h = ih (suc m) (suc n) le in (h.0, rw is (ap (λ (xs : List ℕ). c ∷ xs) h.1))
+
+fewer : (bytes : List ℕ) (m n : ℕ) → m ≤ n → (more : List ℕ) × (first_lines n bytes ≡ first_lines m bytes ++ more)
+fewer [] m n le = ([], refl)
+fewer (c ∷ bytes) m n le = fewer_at m n c bytes le (c == 10) refl (λ k j. fewer bytes k j)
+
+begins_fewer : (bytes : List ℕ) (m n : ℕ) → m ≤ n → BeginsHistory (first_lines n bytes) → BeginsHistory (first_lines m bytes)
+begins_fewer bytes m n le b =
+    let f = fewer bytes m n le in
+    (b.0, f.0 ++ b.1, subst (IsTextOf b.0) (ap (λ (xs : List ℕ). xs ++ b.1) f.1 ∙ append_assoc (first_lines m bytes) f.0 b.1) b.2)
+
+not_before : (bytes : List ℕ) (m n : ℕ) → IsRefusedLine bytes m → IsRefusedLine bytes n → m < n → ⊥
+not_before bytes m n r s lt = r.wrong (omega (arith, s.there)) (begins_fewer bytes m (n - 1) (omega arith) s.right)
+
+one_line_by : (bytes : List ℕ) (m n : ℕ) → IsRefusedLine bytes m → IsRefusedLine bytes n → (t u : Bool) → nat_lt m n ≡ t → nat_lt n m ≡ u → m ≡ n
+one_line_by bytes m n r s true u is at = absurd (not_before bytes m n r s (ltb-true m n is))
+one_line_by bytes m n r s false true is at = absurd (not_before bytes n m s r (ltb-true n m at))
+one_line_by bytes m n r s false false is at = let a = ltb-false m n is in let b = ltb-false n m at in omega arith
+
+-- one line is refused
+pub one_refused : (bytes : List ℕ) (m n : ℕ) → IsRefusedLine bytes m → IsRefusedLine bytes n → m ≡ n
+one_refused bytes m n r s = one_line_by bytes m n r s (nat_lt m n) (nat_lt n m) refl refl
 
 never_by : (bytes : List ℕ) (n : ℕ) (h : History) → IsRefusedLine bytes n → IsTextOf h bytes → (t : Bool) → nat_lt (line_ends bytes) n ≡ t → ⊥
 never_by bytes n h r t true past = let lt = ltb-true (line_ends bytes) n past in r.missing (omega (arith, r.there)) h t

@@ -153,3 +153,6 @@ module _ (p : Program) (input : List ℤ) (xs events : List Event) (k : ℕ) (be
   reached_there does m =
       reached_more p input xs k before after (slice_index_or xs k d) r (at_read xs k d lt)
       (subst (λ o. IsNext p before (slice_index_or xs k d).tid o after) (told.0 does) n) m
+
+pub one_state : (p : Program) (input : List ℤ) (events : List Event) (one two : State) → Replay p input events one → Replay p input events two → one ≡ two
+one_state p input events one two r s = runs_once p (start_of p input) events one two r s

@@ -9,6 +9,7 @@ use pl_readers::{ReadError, refused};
 use pl_resource::{Cell, Value};
 
 const U32_LIMIT: u128 = 1 << 32;
+
 const I64_LIMIT: u128 = 1 << 63;
 
 /// A number of 32 bits, and what stands behind it.

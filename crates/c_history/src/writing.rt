@@ -1,7 +1,10 @@
 //! The text of events and of histories.
 
-ghost use Rattle.std.specs.Prelude.{◌≡◌, ◌++◌, ◌<◌, ◌-◌, ◌^◌, List, ℕ, Vec, IfOk, OnOk, codes, length, flat_map, decimal};
+ghost use Rattle.std.specs.Prelude.{◌≡◌, ◌++◌, ◌<◌, ◌-◌, ◌^◌, List, ℕ, Vec, IfOk, OnOk, codes, length, flat_map, decimal, FitsSigned};
 ghost use Rattle.std.specs.Fmt.{signed_decimal};
+ghost use Rattle.std.specs.Int.{w64};
+ghost use Rattle.std.specs.List.{AllByRecursion};
+ghost use Rattle.c_history.specs.Bounds as bounds;
 ghost use Rattle.c_history.specs.Text as text;
 ghost use Rattle.c_history.specs.Adds.{Adds};
 
@@ -19,14 +22,16 @@ fn put(out: &mut Vec<u8>, text: &[u8]) -> Result<(), Memory>
 }
 
 fn put_number(out: &mut Vec<u8>, n: u32) -> Result<(), Memory>
-    ensures { Adds result out.old out.new (decimal n) }
+    ensures text { Adds result out.old out.new (decimal n) }
+    ensures within { OnOk result (bounds.IsU32 n) }
 {
     let mut buffer = Buffer::new();
     put(out, buffer.format(n).as_bytes())
 }
 
 fn put_signed(out: &mut Vec<u8>, n: i64) -> Result<(), Memory>
-    ensures { Adds result out.old out.new (signed_decimal n) }
+    ensures text { Adds result out.old out.new (signed_decimal n) }
+    ensures within { OnOk result (FitsSigned w64 n) }
 {
     let mut buffer = Buffer::new();
     put(out, buffer.format(n).as_bytes())
@@ -44,14 +49,16 @@ fn put_truth(out: &mut Vec<u8>, b: bool) -> Result<(), Memory>
 
 /// Adds a word and a number behind it.
 fn put_numbered(out: &mut Vec<u8>, word: &[u8], n: u32) -> Result<(), Memory>
-    ensures { Adds result out.old out.new (word.now ++ decimal n) }
+    ensures text { Adds result out.old out.new (word.now ++ decimal n) }
+    ensures within { OnOk result (bounds.IsU32 n) }
 {
     put(out, word)?;
     put_number(out, n)
 }
 
 fn put_cell(out: &mut Vec<u8>, cell: &Cell) -> Result<(), Memory>
-    ensures { Adds result out.old out.new (text.cell_text cell.now) }
+    ensures text { Adds result out.old out.new (text.cell_text cell.now) }
+    ensures within { OnOk result (bounds.IsCellWithin cell.now) }
 {
     put_numbered(out, b"b", cell.block)?;
     put_numbered(out, b".", cell.index)?;
@@ -59,7 +66,8 @@ fn put_cell(out: &mut Vec<u8>, cell: &Cell) -> Result<(), Memory>
 }
 
 fn put_value(out: &mut Vec<u8>, value: &Value) -> Result<(), Memory>
-    ensures { Adds result out.old out.new (text.value_text value.now) }
+    ensures text { Adds result out.old out.new (text.value_text value.now) }
+    ensures within { OnOk result (bounds.IsValueWithin value.now) }
 {
     match *value {
         Value::Int(n) => put_signed(out, n),
@@ -72,7 +80,8 @@ fn put_value(out: &mut Vec<u8>, value: &Value) -> Result<(), Memory>
 
 /// Adds a word, a cell and a value.
 fn put_access(out: &mut Vec<u8>, word: &[u8], cell: &Cell, value: &Value) -> Result<(), Memory>
-    ensures { Adds result out.old out.new (word.now ++ text.cell_text cell.now ++ codes " " ++ text.value_text value.now) }
+    ensures text { Adds result out.old out.new (word.now ++ text.cell_text cell.now ++ codes " " ++ text.value_text value.now) }
+    ensures within { OnOk result (bounds.IsCellWithin cell.now × bounds.IsValueWithin value.now) }
 {
     put(out, word)?;
     put_cell(out, cell)?;
@@ -82,7 +91,8 @@ fn put_access(out: &mut Vec<u8>, word: &[u8], cell: &Cell, value: &Value) -> Res
 
 /// Adds a compare-and-swap.
 fn put_swap(out: &mut Vec<u8>, cell: &Cell, seen: i64, stored: bool) -> Result<(), Memory>
-    ensures { Adds result out.old out.new (codes "cas " ++ text.cell_text cell.now ++ codes " " ++ signed_decimal seen ++ codes " " ++ text.truth_text stored) }
+    ensures text { Adds result out.old out.new (codes "cas " ++ text.cell_text cell.now ++ codes " " ++ signed_decimal seen ++ codes " " ++ text.truth_text stored) }
+    ensures within { OnOk result (bounds.IsCellWithin cell.now × FitsSigned w64 seen) }
 {
     put_access(out, b"cas ", cell, &Value::Int(seen))?;
     put(out, b" ")?;
@@ -90,21 +100,24 @@ fn put_swap(out: &mut Vec<u8>, cell: &Cell, seen: i64, stored: bool) -> Result<(
 }
 
 fn put_alloc(out: &mut Vec<u8>, block: u32, count: u32) -> Result<(), Memory>
-    ensures { Adds result out.old out.new (codes "alloc b" ++ decimal block ++ codes " " ++ decimal count) }
+    ensures text { Adds result out.old out.new (codes "alloc b" ++ decimal block ++ codes " " ++ decimal count) }
+    ensures within { OnOk result (bounds.IsU32 block × bounds.IsU32 count) }
 {
     put_numbered(out, b"alloc b", block)?;
     put_numbered(out, b" ", count)
 }
 
 fn put_word_signed(out: &mut Vec<u8>, word: &[u8], n: i64) -> Result<(), Memory>
-    ensures { Adds result out.old out.new (word.now ++ signed_decimal n) }
+    ensures text { Adds result out.old out.new (word.now ++ signed_decimal n) }
+    ensures within { OnOk result (FitsSigned w64 n) }
 {
     put(out, word)?;
     put_signed(out, n)
 }
 
 fn put_action(out: &mut Vec<u8>, action: &Action) -> Result<(), Memory>
-    ensures { Adds result out.old out.new (text.action_text action.now) }
+    ensures text { Adds result out.old out.new (text.action_text action.now) }
+    ensures within { OnOk result (bounds.IsActionWithin action.now) }
 {
     match *action {
         Action::Load(cell, value) => put_access(out, b"load ", &cell, &value),
@@ -127,7 +140,8 @@ fn put_action(out: &mut Vec<u8>, action: &Action) -> Result<(), Memory>
 }
 
 fn put_event(out: &mut Vec<u8>, event: &Event) -> Result<(), Memory>
-    ensures { Adds result out.old out.new (text.event_text event.now) }
+    ensures text { Adds result out.old out.new (text.event_text event.now) }
+    ensures within { OnOk result (bounds.IsEventWithin event.now) }
 {
     put_number(out, event.tid)?;
     put(out, b" ")?;
@@ -144,7 +158,8 @@ pub fn event_line(alloc: Global, event: &Event) -> Result<Vec<u8>, Memory>
 }
 
 fn put_events(out: &mut Vec<u8>, events: &[Event]) -> Result<(), Memory>
-    ensures { Adds result out.old out.new (flat_map text.event_line events.now) }
+    ensures text { Adds result out.old out.new (flat_map text.event_line events.now) }
+    ensures within { OnOk result (AllByRecursion bounds.IsEventWithin events.now) }
 {
     for event in events {
         put_event(out, event)?;
@@ -157,7 +172,8 @@ fn put_events(out: &mut Vec<u8>, events: &[Event]) -> Result<(), Memory>
 #[tactic(auto, unfolding(crate::specs::Text::history_text))]
 pub fn write_history(alloc: Global, history: &History) -> Result<Vec<u8>, Memory>
     requires { length history.now.events < 2 ^ 32 - 1 }
-    ensures { IfOk result (λ bytes. bytes.items ≡ text.history_text history.now) }
+    ensures text { IfOk result (λ bytes. bytes.items ≡ text.history_text history.now) }
+    ensures within { OnOk result (bounds.IsWithin history.now) }
 {
     let events = history.events.as_slice();
     let mut out = Vec::from_slice(alloc, b"pulse-history 1\n")?;

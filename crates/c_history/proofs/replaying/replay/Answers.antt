@@ -23,7 +23,6 @@ next_event-requires-clause-locks c = omega (arith, c.loop-k.invariant.reached.lo
 pub next_event-requires-clause-threads : goal.next_event-requires-clause-threads
 next_event-requires-clause-threads c = omega (arith, c.loop-k.invariant.reached.threads, ap length c.as_slice-events.ensures)
 
-
 pub returns-then-not-is_event-clause-exact : goal.returns-then-not-is_event-clause-exact
 returns-then-not-is_event-clause-exact c =
     exact_there (plain_program c.args.program.now) c.args.input.now c.as_slice-events.result.now c.args.history.now.events c.loop-k.k (shown c.loop-k.state) (shown c.next_event.new.state) _ c.in_ok-expected.expected c.is_event.result
