@@ -23,10 +23,10 @@ use Rattle.c_meaning.specs.declared.action.Action.TheVariants as act
 use Rattle.c_meaning.specs.declared.action.Event.{Event}
 use Rattle.c_history.specs.Text.{truth_text, cell_text, value_text, action_text, event_text, event_line, last_line}
 use Rattle.c_history.specs.Bounds.{IsU32, IsCellWithin, IsValueWithin, IsActionWithin, IsEventWithin}
-use Rattle.c_history.specs.Readers.{behind, pair, small, signed, truth, numbered, cell, value_of, access, swap, made, done, verb_of, arguments, behind_verb, verb_len, action, line, counted, last}
+use Rattle.c_history.specs.Readers.{behind, pair, unsigned, signed, truth, numbered, cell, value_of, access, swap, made, done, verb_of, arguments, behind_verb, verb_len, action, line, counted, last}
 use Rattle.c_history.specs.declared.verbs.Verb.{Verb}
 use Rattle.c_history.specs.declared.verbs.Verb.TheVariants as verb
-use Rattle.c_history.proofs.Exactly.{NoDigit, Exact, always, Made, exact_behind, exact_pair, exact_small, exact_numbered, exact_signed, exact_truth, exact_cell, exact_value, found_either, found_mapped, takes_mapped, exact_word, decimal_starts}
+use Rattle.c_history.proofs.Exactly.{NoDigit, Exact, always, Made, exact_behind, exact_pair, exact_unsigned, exact_numbered, exact_signed, exact_truth, exact_cell, exact_value, found_either, found_mapped, takes_mapped, exact_word, Found, found_behind, found_pair}
 
 abbrev spaced_cell : Cell → List ℕ
 spaced_cell c = codes " " ++ cell_text c
@@ -190,82 +190,82 @@ return_text rest = refl
 module _ (xs : List ℕ) (a : Action) (rest : List ℕ) where
   load_found : mapped (λ p. act.Load p.0 p.1) access xs ≡ Ok (a, rest) → ActionFound (codes "load") xs a rest
   load_found e =
-      let m = found_mapped access_text IsAccess access exact_access (λ p. act.Load p.0 p.1) xs a rest e in
+      let m = found_mapped access_text IsAccess access exact_access.found (λ p. act.Load p.0 p.1) xs a rest e in
       subst (λ (w : Action). ActionFound (codes "load") xs w rest) m.is ((m.fits.0, m.fits.1), ap (λ (s : List ℕ). codes "load" ++ s) m.parts ∙ load_text m.from.0 m.from.1 rest)
 
   store_found : mapped (λ p. act.Store p.0 p.1) access xs ≡ Ok (a, rest) → ActionFound (codes "store") xs a rest
   store_found e =
-      let m = found_mapped access_text IsAccess access exact_access (λ p. act.Store p.0 p.1) xs a rest e in
+      let m = found_mapped access_text IsAccess access exact_access.found (λ p. act.Store p.0 p.1) xs a rest e in
       subst (λ (w : Action). ActionFound (codes "store") xs w rest) m.is ((m.fits.0, m.fits.1), ap (λ (s : List ℕ). codes "store" ++ s) m.parts ∙ store_text m.from.0 m.from.1 rest)
 
   cas_found : mapped (λ p. act.Cas p.0 p.1.0 p.1.1) swap xs ≡ Ok (a, rest) → ActionFound (codes "cas") xs a rest
   cas_found e =
-      let m = found_mapped swap_text IsSwap swap exact_swap (λ p. act.Cas p.0 p.1.0 p.1.1) xs a rest e in
+      let m = found_mapped swap_text IsSwap swap exact_swap.found (λ p. act.Cas p.0 p.1.0 p.1.1) xs a rest e in
       subst (λ (w : Action). ActionFound (codes "cas") xs w rest) m.is ((m.fits.0, m.fits.1.0), ap (λ (s : List ℕ). codes "cas" ++ s) m.parts ∙ cas_text m.from.0 m.from.1.0 m.from.1.1 rest)
 
   alloc_found : mapped (λ p. act.Alloc p.0 p.1) made xs ≡ Ok (a, rest) → ActionFound (codes "alloc") xs a rest
   alloc_found e =
-      let m = found_mapped made_text IsMade made exact_made (λ p. act.Alloc p.0 p.1) xs a rest e in
+      let m = found_mapped made_text IsMade made exact_made.found (λ p. act.Alloc p.0 p.1) xs a rest e in
       subst (λ (w : Action). ActionFound (codes "alloc") xs w rest) m.is (m.fits, ap (λ (s : List ℕ). codes "alloc" ++ s) m.parts ∙ alloc_text m.from.0 m.from.1 rest)
 
   free_found : mapped act.Free (numbered (codes " b")) xs ≡ Ok (a, rest) → ActionFound (codes "free") xs a rest
   free_found e =
-      let m = found_mapped (λ n. codes " b" ++ decimal n) IsU32 (numbered (codes " b")) (exact_numbered (codes " b")) act.Free xs a rest e in
+      let m = found_mapped (λ n. codes " b" ++ decimal n) IsU32 (numbered (codes " b")) (exact_numbered (codes " b")).found act.Free xs a rest e in
       subst (λ (w : Action). ActionFound (codes "free") xs w rest) m.is (m.fits, ap (λ (s : List ℕ). codes "free" ++ s) m.parts ∙ free_text m.from rest)
 
   newlock_found : mapped act.NewLock (numbered (codes " k")) xs ≡ Ok (a, rest) → ActionFound (codes "newlock") xs a rest
   newlock_found e =
-      let m = found_mapped (λ n. codes " k" ++ decimal n) IsU32 (numbered (codes " k")) (exact_numbered (codes " k")) act.NewLock xs a rest e in
+      let m = found_mapped (λ n. codes " k" ++ decimal n) IsU32 (numbered (codes " k")) (exact_numbered (codes " k")).found act.NewLock xs a rest e in
       subst (λ (w : Action). ActionFound (codes "newlock") xs w rest) m.is (m.fits, ap (λ (s : List ℕ). codes "newlock" ++ s) m.parts ∙ newlock_text m.from rest)
 
   acquire_found : mapped act.Acquire (numbered (codes " k")) xs ≡ Ok (a, rest) → ActionFound (codes "acquire") xs a rest
   acquire_found e =
-      let m = found_mapped (λ n. codes " k" ++ decimal n) IsU32 (numbered (codes " k")) (exact_numbered (codes " k")) act.Acquire xs a rest e in
+      let m = found_mapped (λ n. codes " k" ++ decimal n) IsU32 (numbered (codes " k")) (exact_numbered (codes " k")).found act.Acquire xs a rest e in
       subst (λ (w : Action). ActionFound (codes "acquire") xs w rest) m.is (m.fits, ap (λ (s : List ℕ). codes "acquire" ++ s) m.parts ∙ acquire_text m.from rest)
 
   release_found : mapped act.Release (numbered (codes " k")) xs ≡ Ok (a, rest) → ActionFound (codes "release") xs a rest
   release_found e =
-      let m = found_mapped (λ n. codes " k" ++ decimal n) IsU32 (numbered (codes " k")) (exact_numbered (codes " k")) act.Release xs a rest e in
+      let m = found_mapped (λ n. codes " k" ++ decimal n) IsU32 (numbered (codes " k")) (exact_numbered (codes " k")).found act.Release xs a rest e in
       subst (λ (w : Action). ActionFound (codes "release") xs w rest) m.is (m.fits, ap (λ (s : List ℕ). codes "release" ++ s) m.parts ∙ release_text m.from rest)
 
   freelock_found : mapped act.FreeLock (numbered (codes " k")) xs ≡ Ok (a, rest) → ActionFound (codes "freelock") xs a rest
   freelock_found e =
-      let m = found_mapped (λ n. codes " k" ++ decimal n) IsU32 (numbered (codes " k")) (exact_numbered (codes " k")) act.FreeLock xs a rest e in
+      let m = found_mapped (λ n. codes " k" ++ decimal n) IsU32 (numbered (codes " k")) (exact_numbered (codes " k")).found act.FreeLock xs a rest e in
       subst (λ (w : Action). ActionFound (codes "freelock") xs w rest) m.is (m.fits, ap (λ (s : List ℕ). codes "freelock" ++ s) m.parts ∙ freelock_text m.from rest)
 
   fork_found : mapped act.Fork (numbered (codes " ")) xs ≡ Ok (a, rest) → ActionFound (codes "fork") xs a rest
   fork_found e =
-      let m = found_mapped (λ n. codes " " ++ decimal n) IsU32 (numbered (codes " ")) (exact_numbered (codes " ")) act.Fork xs a rest e in
+      let m = found_mapped (λ n. codes " " ++ decimal n) IsU32 (numbered (codes " ")) (exact_numbered (codes " ")).found act.Fork xs a rest e in
       subst (λ (w : Action). ActionFound (codes "fork") xs w rest) m.is (m.fits, ap (λ (s : List ℕ). codes "fork" ++ s) m.parts ∙ fork_text m.from rest)
 
   join_found : mapped act.Join (numbered (codes " ")) xs ≡ Ok (a, rest) → ActionFound (codes "join") xs a rest
   join_found e =
-      let m = found_mapped (λ n. codes " " ++ decimal n) IsU32 (numbered (codes " ")) (exact_numbered (codes " ")) act.Join xs a rest e in
+      let m = found_mapped (λ n. codes " " ++ decimal n) IsU32 (numbered (codes " ")) (exact_numbered (codes " ")).found act.Join xs a rest e in
       subst (λ (w : Action). ActionFound (codes "join") xs w rest) m.is (m.fits, ap (λ (s : List ℕ). codes "join" ++ s) m.parts ∙ join_text m.from rest)
 
   print_found : mapped act.Print (behind (codes " ") signed) xs ≡ Ok (a, rest) → ActionFound (codes "print") xs a rest
   print_found e =
-      let m = found_mapped (λ n. codes " " ++ signed_decimal n) (FitsSigned w64) (behind (codes " ") signed) exact_spaced_signed act.Print xs a rest e in
+      let m = found_mapped (λ n. codes " " ++ signed_decimal n) (FitsSigned w64) (behind (codes " ") signed) exact_spaced_signed.found act.Print xs a rest e in
       subst (λ (w : Action). ActionFound (codes "print") xs w rest) m.is (m.fits, ap (λ (s : List ℕ). codes "print" ++ s) m.parts ∙ print_text m.from rest)
 
   read_found : mapped act.Read (behind (codes " ") signed) xs ≡ Ok (a, rest) → ActionFound (codes "read") xs a rest
   read_found e =
-      let m = found_mapped (λ n. codes " " ++ signed_decimal n) (FitsSigned w64) (behind (codes " ") signed) exact_spaced_signed act.Read xs a rest e in
+      let m = found_mapped (λ n. codes " " ++ signed_decimal n) (FitsSigned w64) (behind (codes " ") signed) exact_spaced_signed.found act.Read xs a rest e in
       subst (λ (w : Action). ActionFound (codes "read") xs w rest) m.is (m.fits, ap (λ (s : List ℕ). codes "read" ++ s) m.parts ∙ read_text m.from rest)
 
   turn_found : mapped (λ _. act.Turn) (nothing done) xs ≡ Ok (a, rest) → ActionFound (codes "turn") xs a rest
   turn_found e =
-      let m = found_mapped (λ u. []) always (nothing done) exact_nothing (λ _. act.Turn) xs a rest e in
+      let m = found_mapped (λ u. []) always (nothing done) exact_nothing.found (λ _. act.Turn) xs a rest e in
       subst (λ (w : Action). ActionFound (codes "turn") xs w rest) m.is (tt, ap (λ (s : List ℕ). codes "turn" ++ s) m.parts ∙ turn_text rest)
 
   call_found : mapped act.Call (numbered (codes " ")) xs ≡ Ok (a, rest) → ActionFound (codes "call") xs a rest
   call_found e =
-      let m = found_mapped (λ n. codes " " ++ decimal n) IsU32 (numbered (codes " ")) (exact_numbered (codes " ")) act.Call xs a rest e in
+      let m = found_mapped (λ n. codes " " ++ decimal n) IsU32 (numbered (codes " ")) (exact_numbered (codes " ")).found act.Call xs a rest e in
       subst (λ (w : Action). ActionFound (codes "call") xs w rest) m.is (m.fits, ap (λ (s : List ℕ). codes "call" ++ s) m.parts ∙ call_text m.from rest)
 
   return_found : mapped (λ _. act.Return) (nothing done) xs ≡ Ok (a, rest) → ActionFound (codes "return") xs a rest
   return_found e =
-      let m = found_mapped (λ u. []) always (nothing done) exact_nothing (λ _. act.Return) xs a rest e in
+      let m = found_mapped (λ u. []) always (nothing done) exact_nothing.found (λ _. act.Return) xs a rest e in
       subst (λ (w : Action). ActionFound (codes "return") xs w rest) m.is (tt, ap (λ (s : List ℕ). codes "return" ++ s) m.parts ∙ return_text rest)
 
 verb_found : (word : List ℕ) (v : Verb) → verb_of word ≡ Some v → word ≡ verb_text v
@@ -432,38 +432,43 @@ action_found xs a rest e =
 abbrev made_event : ℕ → Action → Event
 made_event t a = record { tid = t; action = a }
 
-regroup : (t a rest : List ℕ) → t ++ (codes " " ++ (a ++ (codes "\n" ++ rest))) ≡ ((t ++ codes " " ++ a) ++ codes "\n") ++ rest
-regroup t a rest = simp append_assoc
+regroup : (t b a n rest : List ℕ) → (t ++ ((b ++ a) ++ n)) ++ rest ≡ ((t ++ b ++ a) ++ n) ++ rest
+regroup t b a n rest = simp append_assoc
 
 -- the line of an event is read as it
 pub line_takes : (e : Event) (rest : List ℕ) → IsEventWithin e → line (event_line e ++ rest) ≡ Ok (e, rest)
 unfolding line
 line_takes e rest f =
     let parts : event_line e ++ rest ≡ decimal e.tid ++ (codes " " ++ (action_text e.action ++ 10 ∷ rest)) = simp append_assoc in
-    rw (parts, exact_small.takes e.tid (codes " " ++ (action_text e.action ++ 10 ∷ rest)) f.0 refl, word_takes (codes " ") (action_text e.action ++ 10 ∷ rest), action_takes e.action rest f.1, word_takes (codes "\n") rest) refl
+    rw (parts, exact_unsigned.takes e.tid (codes " " ++ (action_text e.action ++ 10 ∷ rest)) f.0 refl, word_takes (codes " ") (action_text e.action ++ 10 ∷ rest), action_takes e.action rest f.1, word_takes (codes "\n") rest) refl
+
+abbrev spaced_action : Action → List ℕ
+spaced_action a = codes " " ++ action_text a
+
+abbrev ended_action : Action × Unit {0} → List ℕ
+ended_action p = spaced_action p.0 ++ codes "\n"
+
+abbrev IsEnded : Action × Unit {0} → Type 0
+IsEnded p = IsActionWithin p.0 × always p.1
+
+abbrev line_parts : ℕ × (Action × Unit {0}) → List ℕ
+line_parts p = decimal p.0 ++ ended_action p.1
+
+abbrev line_reader : Reader ℕ (ℕ × (Action × Unit {0}))
+line_reader = pair unsigned (pair (behind (codes " ") action) (word (codes "\n")))
+
+found_parts : Found line_parts (λ p. IsU32 p.0 × IsEnded p.1) line_reader
+found_parts =
+    found_pair decimal IsU32 unsigned exact_unsigned.found ended_action IsEnded (pair (behind (codes " ") action) (word (codes "\n")))
+    (found_pair spaced_action IsActionWithin (behind (codes " ") action) (found_behind action_text IsActionWithin action action_found (codes " ")) (λ u. codes "\n") always (word (codes "\n")) (exact_word (codes "\n")).found)
 
 -- and nothing else is
 pub line_found : (xs : List ℕ) (e : Event) (rest : List ℕ) → line xs ≡ Ok (e, rest) → IsEventWithin e × (xs ≡ event_line e ++ rest)
 unfolding line
 line_found xs e rest h =
-    let w = bind_ok (pair small (pair (behind (codes " ") action) (word (codes "\n"))) xs) (λ y. Ok (record { tid = y.0.0; action = y.0.1.0 }, y.1)) (e, rest) h in
-    let is = fine_is (record { tid = w.0.0.0; action = w.0.0.1.0 }, w.0.1) (e, rest) w.2 in
-    let x = bind_ok (small xs) (λ y. mapped (λ b. (y.0, b)) (pair (behind (codes " ") action) (word (codes "\n"))) y.1) w.0 w.1 in
-    let y = bind_ok (pair (behind (codes " ") action) (word (codes "\n")) x.0.1) (λ y. Ok ((x.0.0, y.0), y.1)) w.0 x.2 in
-    let u = bind_ok (behind (codes " ") action x.0.1) (λ z. mapped (λ b. (z.0, b)) (word (codes "\n")) z.1) y.0 y.1 in
-    let v = bind_ok (word (codes " ") x.0.1) (λ z. action z.1) u.0 u.1 in
-    let z = bind_ok (word (codes "\n") u.0.1) (λ z. Ok ((u.0.0, z.0), z.1)) y.0 u.2 in
-    let tid = exact_small.found xs x.0.0 x.0.1 x.1 in
-    let blank = (exact_word (codes " ")).found x.0.1 v.0.0 v.0.1 v.1 in
-    let act = action_found v.0.1 u.0.0 u.0.1 v.2 in
-    let end = (exact_word (codes "\n")).found u.0.1 z.0.0 z.0.1 z.1 in
-    let one : ((u.0.0, z.0.0), z.0.1) ≡ y.0 = fine_is ((u.0.0, z.0.0), z.0.1) y.0 z.2 in
-    let two : ((x.0.0, y.0.0), y.0.1) ≡ w.0 = fine_is ((x.0.0, y.0.0), y.0.1) w.0 y.2 in
-    let three : (record { tid = x.0.0; action = u.0.0 }, z.0.1) ≡ (e, rest) =
-    ap (λ (p : (Action × Unit {0}) × List ℕ). (made_event x.0.0 p.0.0, p.1)) one ∙ ap (λ (p : (ℕ × (Action × Unit {0})) × List ℕ). (made_event p.0.0 p.0.1.0, p.1)) two ∙ is in
-    let text : xs ≡ event_line (made_event x.0.0 u.0.0) ++ z.0.1 =
-    tid.1 ∙ ap (λ (s : List ℕ). decimal x.0.0 ++ s) (blank.1 ∙ ap (λ (s : List ℕ). codes " " ++ s) (act.1 ∙ ap (λ (s : List ℕ). action_text u.0.0 ++ s) end.1)) ∙ regroup (decimal x.0.0) (action_text u.0.0) z.0.1 in
-    subst (λ (p : Event × List ℕ). IsEventWithin p.0 × (xs ≡ event_line p.0 ++ p.1)) three ((tid.0, act.0), text)
+    let m = found_mapped line_parts (λ p. IsU32 p.0 × IsEnded p.1) line_reader found_parts (λ p. made_event p.0 p.1.0) xs e rest h in
+    subst (λ (d : Event). IsEventWithin d × (xs ≡ event_line d ++ rest)) m.is
+    ((m.fits.0, m.fits.1.0), m.parts ∙ regroup (decimal m.from.0) (codes " ") (action_text m.from.1.0) (codes "\n") rest)
 
 abbrev last_front : ℕ → List ℕ
 last_front n = codes "end " ++ decimal n

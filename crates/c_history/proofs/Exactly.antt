@@ -17,15 +17,19 @@ use Rattle.pl_resource.specs.declared.value.Value.{Value}
 use Rattle.pl_resource.specs.declared.value.Value.TheVariants as value
 use Rattle.c_history.specs.Text.{truth_text, cell_text, value_text}
 use Rattle.c_history.specs.Bounds.{IsU32, IsCellWithin, IsValueWithin}
-use Rattle.c_history.specs.Readers.{behind, pair, small, negated, signed, truth, numbered, cell, value_of}
+use Rattle.c_history.specs.Readers.{behind, pair, unsigned, negated, signed, truth, numbered, cell, value_of}
 use Rattle.c_history.proofs.NumberTexts.{number_is, is_number}
 
 abbrev pub NoDigit : List ℕ → Type 0
 NoDigit rest = Ends is_ascii_digit rest
 
--- P takes the text of a value that fits, and nothing else, where no digit stands behind it
+-- what P takes is the text of a value that fits
+abbrev pub Found : {A : Type 0} → (A → List ℕ) → (A → Type 0) → Reader ℕ A → Type 0
+Found {A} text Fits P = (xs : List ℕ) (a : A) (rest : List ℕ) → P xs ≡ Ok (a, rest) → Fits a × (xs ≡ text a ++ rest)
+
+-- and it takes each such text behind which no digit stands
 pub record Exact {A : Type 0} (text : A → List ℕ) (Fits : A → Type 0) (P : Reader ℕ A) : Type 0 where
-  pub found : (xs : List ℕ) (a : A) (rest : List ℕ) → P xs ≡ Ok (a, rest) → Fits a × (xs ≡ text a ++ rest)
+  pub found : Found text Fits P
   pub takes : (a : A) (rest : List ℕ) → Fits a → NoDigit rest → P (text a ++ rest) ≡ Ok (a, rest)
 
 abbrev pub always : {A : Type 0} → A → Type 0
@@ -45,28 +49,35 @@ exact_number limit ten most = record {
   takes = λ n rest f ends. (Reads-number limit ten).takes n (decimal n) rest (is_number limit n most f) ends;
 }
 
+module _ {A : Type 0} (text : A → List ℕ) (Fits : A → Type 0) (P : Reader ℕ A) (p : Found text Fits P) where
+  pub found_behind : (w : List ℕ) → Found (λ a. w ++ text a) Fits (behind w P)
+  found_behind w xs a rest e =
+      let x = bind_ok (word w xs) (λ z. P z.1) (a, rest) e in
+      let f = (exact_word w).found xs x.0.0 x.0.1 x.1 in
+      let g = p x.0.1 a rest x.2 in
+      (g.0, f.1 ∙ ap (λ (s : List ℕ). w ++ s) g.1 ∙ sym (append_assoc w (text a) rest))
+
+  pub found_pair : {B : Type 0} (more : B → List ℕ) (Also : B → Type 0) (Q : Reader ℕ B) → Found more Also Q → Found (λ (z : A × B). text z.0 ++ more z.1) (λ z. Fits z.0 × Also z.1) (pair P Q)
+  found_pair {B} more Also Q q xs z rest e =
+      let x = bind_ok (P xs) (λ y. mapped (λ b. (y.0, b)) Q y.1) (z, rest) e in
+      let y = bind_ok (Q x.0.1) (λ y. Ok ((x.0.0, y.0), y.1)) (z, rest) x.2 in
+      let same = fine_is ((x.0.0, y.0.0), y.0.1) (z, rest) y.2 in
+      let f = p xs x.0.0 x.0.1 x.1 in
+      let g = q x.0.1 y.0.0 y.0.1 y.1 in
+      let both : xs ≡ (text x.0.0 ++ more y.0.0) ++ y.0.1 = f.1 ∙ ap (λ (s : List ℕ). text x.0.0 ++ s) g.1 ∙ sym (append_assoc (text x.0.0) (more y.0.0) y.0.1) in
+      subst (λ (w : (A × B) × List ℕ). (Fits w.0.0 × Also w.0.1) × (xs ≡ (text w.0.0 ++ more w.0.1) ++ w.1)) same ((f.0, g.0), both)
+
 module _ {A : Type 0} (text : A → List ℕ) (Fits : A → Type 0) (P : Reader ℕ A) (p : Exact text Fits P) where
   pub exact_behind : (w : List ℕ) → Exact (λ a. w ++ text a) Fits (behind w P)
   exact_behind w = record {
-    found = λ xs a rest e.
-        let x = bind_ok (word w xs) (λ z. P z.1) (a, rest) e in
-        let f = (exact_word w).found xs x.0.0 x.0.1 x.1 in
-        let g = p.found x.0.1 a rest x.2 in
-        (g.0, f.1 ∙ ap (λ (s : List ℕ). w ++ s) g.1 ∙ sym (append_assoc w (text a) rest));
+    found = found_behind text Fits P p.found w;
     takes = λ a rest f n. rw (append_assoc w (text a) rest, word_takes w (text a ++ rest)) (p.takes a rest f n);
   }
 
   module _ {B : Type 0} (more : B → List ℕ) (Also : B → Type 0) (Q : Reader ℕ B) (q : Exact more Also Q) where
     pub exact_pair : ((b : B) (rest : List ℕ) → NoDigit (more b ++ rest)) → Exact (λ (z : A × B). text z.0 ++ more z.1) (λ z. Fits z.0 × Also z.1) (pair P Q)
     exact_pair apart = record {
-      found = λ xs z rest e.
-          let x = bind_ok (P xs) (λ y. mapped (λ b. (y.0, b)) Q y.1) (z, rest) e in
-          let y = bind_ok (Q x.0.1) (λ y. Ok ((x.0.0, y.0), y.1)) (z, rest) x.2 in
-          let same = fine_is ((x.0.0, y.0.0), y.0.1) (z, rest) y.2 in
-          let f = p.found xs x.0.0 x.0.1 x.1 in
-          let g = q.found x.0.1 y.0.0 y.0.1 y.1 in
-          let both : xs ≡ (text x.0.0 ++ more y.0.0) ++ y.0.1 = f.1 ∙ ap (λ (s : List ℕ). text x.0.0 ++ s) g.1 ∙ sym (append_assoc (text x.0.0) (more y.0.0) y.0.1) in
-          subst (λ (w : (A × B) × List ℕ). (Fits w.0.0 × Also w.0.1) × (xs ≡ (text w.0.0 ++ more w.0.1) ++ w.1)) same ((f.0, g.0), both);
+      found = found_pair text Fits P p.found more Also Q q.found;
       takes = λ z rest f n.
           rw (append_assoc (text z.0) (more z.1) rest, p.takes z.0 (more z.1 ++ rest) f.0 (apart z.1 rest), q.takes z.1 rest f.1 n) refl;
     }
@@ -96,30 +107,29 @@ pub record Made {A B : Type 0} (text : A → List ℕ) (Fits : A → Type 0) (f 
   pub fits : Fits from
   pub parts : xs ≡ text from ++ rest
 
-module _ {A B : Type 0} (text : A → List ℕ) (Fits : A → Type 0) (P : Reader ℕ A) (p : Exact text Fits P) (f : A → B) where
-  pub found_mapped : (xs : List ℕ) (b : B) (rest : List ℕ) → mapped f P xs ≡ Ok (b, rest) → Made text Fits f xs b rest
-  found_mapped xs b rest e =
-      let x = bind_ok (P xs) (λ y. Ok (f y.0, y.1)) (b, rest) e in
-      let is = fine_is (f x.0.0, x.0.1) (b, rest) x.2 in
-      let g = p.found xs x.0.0 x.0.1 x.1 in
-      record {
-        from = x.0.0;
-        is = ap (λ (w : B × List ℕ). w.0) is;
-        fits = g.0;
-        parts = g.1 ∙ ap (λ (w : B × List ℕ). text x.0.0 ++ w.1) is;
-      }
+pub found_mapped : {A B : Type 0} (text : A → List ℕ) (Fits : A → Type 0) (P : Reader ℕ A) → Found text Fits P → (f : A → B) (xs : List ℕ) (b : B) (rest : List ℕ) → mapped f P xs ≡ Ok (b, rest) → Made text Fits f xs b rest
+found_mapped {A} {B} text Fits P p f xs b rest e =
+    let x = bind_ok (P xs) (λ y. Ok (f y.0, y.1)) (b, rest) e in
+    let is = fine_is (f x.0.0, x.0.1) (b, rest) x.2 in
+    let g = p xs x.0.0 x.0.1 x.1 in
+    record {
+      from = x.0.0;
+      is = ap (λ (w : B × List ℕ). w.0) is;
+      fits = g.0;
+      parts = g.1 ∙ ap (λ (w : B × List ℕ). text x.0.0 ++ w.1) is;
+    }
 
-  pub takes_mapped : (a : A) (rest : List ℕ) → Fits a → NoDigit rest → mapped f P (text a ++ rest) ≡ Ok (f a, rest)
-  takes_mapped a rest fits n = rw (p.takes a rest fits n) refl
+pub takes_mapped : {A B : Type 0} (text : A → List ℕ) (Fits : A → Type 0) (P : Reader ℕ A) → Exact text Fits P → (f : A → B) (a : A) (rest : List ℕ) → Fits a → NoDigit rest → mapped f P (text a ++ rest) ≡ Ok (f a, rest)
+takes_mapped text Fits P p f a rest fits n = rw (p.takes a rest fits n) refl
 
 -- ---- numbers
 
-pub exact_small : Exact decimal IsU32 small
-unfolding small
-exact_small = exact_number (2 ^ 32) (omega arith) (omega arith)
+pub exact_unsigned : Exact decimal IsU32 unsigned
+unfolding unsigned
+exact_unsigned = exact_number (2 ^ 32) (omega arith) (omega arith)
 
 pub exact_numbered : (w : List ℕ) → Exact (λ n. w ++ decimal n) IsU32 (numbered w)
-exact_numbered w = exact_behind decimal IsU32 small exact_small w
+exact_numbered w = exact_behind decimal IsU32 unsigned exact_unsigned w
 
 not_equal : (c k : ℕ) → is_ascii_digit c ≡ true → is_ascii_digit k ≡ false → (b : Bool) → (c == k) ≡ b → b ≡ false
 not_equal c k digit none true e = sym (sym (ap is_ascii_digit (eqb-true c k e) ∙ none) ∙ digit)
@@ -130,9 +140,6 @@ pub decimal_begins : (n k : ℕ) (rest : List ℕ) → n < 2 ^ 64 → is_ascii_d
 decimal_begins n k rest small none =
     let d = is_number (2 ^ 64) n (omega arith) small in
     rw d.2 (not_equal d.0 k d.3 none (d.0 == k) refl)
-
-pub decimal_starts : (n : ℕ) (rest : List ℕ) → n < 2 ^ 64 → begins is_ascii_digit (decimal n ++ rest) ≡ true
-decimal_starts n rest small = let d = is_number (2 ^ 64) n (omega arith) small in rw d.2 d.3
 
 pub signed_begins : (z : ℤ) (k : ℕ) (rest : List ℕ) → FitsSigned w64 z → is_ascii_digit k ≡ false → (45 == k) ≡ false → begins (is k) (signed_decimal z ++ rest) ≡ false
 signed_begins (pos n) k rest fits none minus = decimal_begins n k rest (omega arith) none
@@ -181,7 +188,7 @@ exact_signed = record {
   found = λ xs z rest e.
       found_either (begins (is 45) xs) (behind (codes "-") (next (number (2 ^ 63 + 1)) negated) xs) (mapped pos (number (2 ^ 63)) xs) (z, rest)
       (below_found xs z rest)
-      (λ h. above_found xs z rest (found_mapped decimal (λ n. n < 2 ^ 63) (number (2 ^ 63)) exact_above pos xs z rest h)) e;
+      (λ h. above_found xs z rest (found_mapped decimal (λ n. n < 2 ^ 63) (number (2 ^ 63)) exact_above.found pos xs z rest h)) e;
   takes = signed_takes;
 }
 
@@ -200,8 +207,8 @@ unfolding truth
 exact_truth = record {
   found = λ xs c rest e.
       found_either (begins (is 116) xs) (mapped (λ _. true) (word (codes "true")) xs) (mapped (λ _. false) (word (codes "false")) xs) (c, rest)
-      (λ h. truth_found true xs c rest (found_mapped (λ u. codes "true") always (word (codes "true")) (exact_word (codes "true")) (λ _. true) xs c rest h))
-      (λ h. truth_found false xs c rest (found_mapped (λ u. codes "false") always (word (codes "false")) (exact_word (codes "false")) (λ _. false) xs c rest h)) e;
+      (λ h. truth_found true xs c rest (found_mapped (λ u. codes "true") always (word (codes "true")) (exact_word (codes "true")).found (λ _. true) xs c rest h))
+      (λ h. truth_found false xs c rest (found_mapped (λ u. codes "false") always (word (codes "false")) (exact_word (codes "false")).found (λ _. false) xs c rest h)) e;
   takes = λ b rest f ends. truth_takes b rest ends;
 }
 
@@ -249,17 +256,17 @@ module _ (xs : List ℕ) (v : Value) (rest : List ℕ) where
   int_found m = subst (λ w. ValueFound xs w rest) m.is (m.fits, m.parts)
 
   truth_or : mapped value.Truth truth xs ≡ Ok (v, rest) → ValueFound xs v rest
-  truth_or h = bool_found (found_mapped truth_text always truth exact_truth value.Truth xs v rest h)
+  truth_or h = bool_found (found_mapped truth_text always truth exact_truth.found value.Truth xs v rest h)
 
   value_found : value_of xs ≡ Ok (v, rest) → ValueFound xs v rest
   unfolding value_of
   value_found e =
-      found_either (begins (is 98) xs) (mapped value.Block (numbered (codes "b")) xs) _ (v, rest) (λ h. block_found (found_mapped (λ n. codes "b" ++ decimal n) IsU32 (numbered (codes "b")) (exact_numbered (codes "b")) value.Block xs v rest h))
-      (found_either (begins (is 107) xs) (mapped value.Lock (numbered (codes "k")) xs) _ (v, rest) (λ h. lock_found (found_mapped (λ n. codes "k" ++ decimal n) IsU32 (numbered (codes "k")) (exact_numbered (codes "k")) value.Lock xs v rest h))
-      (found_either (begins (is 110) xs) (mapped (λ _. value.Null) (word (codes "null")) xs) _ (v, rest) (λ h. null_found (found_mapped (λ u. codes "null") always (word (codes "null")) (exact_word (codes "null")) (λ _. value.Null) xs v rest h))
+      found_either (begins (is 98) xs) (mapped value.Block (numbered (codes "b")) xs) _ (v, rest) (λ h. block_found (found_mapped (λ n. codes "b" ++ decimal n) IsU32 (numbered (codes "b")) (exact_numbered (codes "b")).found value.Block xs v rest h))
+      (found_either (begins (is 107) xs) (mapped value.Lock (numbered (codes "k")) xs) _ (v, rest) (λ h. lock_found (found_mapped (λ n. codes "k" ++ decimal n) IsU32 (numbered (codes "k")) (exact_numbered (codes "k")).found value.Lock xs v rest h))
+      (found_either (begins (is 110) xs) (mapped (λ _. value.Null) (word (codes "null")) xs) _ (v, rest) (λ h. null_found (found_mapped (λ u. codes "null") always (word (codes "null")) (exact_word (codes "null")).found (λ _. value.Null) xs v rest h))
       (found_either (begins (is 116) xs) (mapped value.Truth truth xs) _ (v, rest) truth_or
       (found_either (begins (is 102) xs) (mapped value.Truth truth xs) (mapped value.Int signed xs) (v, rest) truth_or
-      (λ h. int_found (found_mapped signed_decimal (FitsSigned w64) signed exact_signed value.Int xs v rest h)))))) e
+      (λ h. int_found (found_mapped signed_decimal (FitsSigned w64) signed exact_signed.found value.Int xs v rest h)))))) e
 
 value_takes : (v : Value) (rest : List ℕ) → IsValueWithin v → NoDigit rest → value_of (value_text v ++ rest) ≡ Ok (v, rest)
 unfolding value_of

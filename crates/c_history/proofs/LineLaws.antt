@@ -30,7 +30,7 @@ use Rattle.c_history.specs.declared.error.HistoryError.TheVariants as error
 use Rattle.c_history.specs.Text.{truth_text, cell_text, value_text, action_text, event_text, event_line, first_line, last_line, history_text}
 use Rattle.c_history.specs.Bounds.{IsU32, IsCellWithin, IsValueWithin, IsActionWithin, IsEventWithin, IsWithin}
 use Rattle.c_history.specs.Lines.{line_ends, first_lines, IsTextOf, BeginsHistory, IsRefusedLine, error_at, IfBadHistory, IsReadAs}
-use Rattle.c_history.specs.Readers.{small, line, last, done, AreLines}
+use Rattle.c_history.specs.Readers.{unsigned, line, last, done, AreLines}
 use Rattle.c_history.proofs.NumberTexts.{own}
 use Rattle.c_history.proofs.Exactly.{exact_word}
 use Rattle.c_history.proofs.ActionLaws.{line_takes, line_found, last_takes, last_found}
@@ -241,7 +241,7 @@ lines_long (e ∷ es) = rw flat_map-cons (omega (arith, lines_long es, length-ap
 
 -- the last line is no line of an event
 last_is_none : (n : ℕ) (rest : List ℕ) → (s : Stop) × (line (last_line n ++ rest) ≡ Err s)
-unfolding line small number
+unfolding line unsigned number
 last_is_none n rest = (record { is_deep = false; left = length (last_line n ++ rest) }, refl)
 
 abbrev fine : {A : Type 0} → A → Result A Stop

@@ -26,8 +26,8 @@ abbrev pub pair : {A B : Type 0} → Reader ℕ A → Reader ℕ B → Reader �
 pair P Q = next P (λ a. mapped (λ b. (a, b)) Q)
 
 -- a number of 32 bits
-unfoldable pub small : Reader ℕ ℕ
-small = number (2 ^ 32)
+unfoldable pub unsigned : Reader ℕ ℕ
+unsigned = number (2 ^ 32)
 
 -- minus that number, which isn't 0
 abbrev pub negated : ℕ → Reader ℕ ℤ
@@ -42,7 +42,7 @@ unfoldable pub truth : Reader ℕ Bool
 truth = either (is 116) (mapped (λ _. true) (word (codes "true"))) (mapped (λ _. false) (word (codes "false")))
 
 abbrev pub numbered : List ℕ → Reader ℕ ℕ
-numbered w = behind w small
+numbered w = behind w unsigned
 
 unfoldable pub cell : Reader ℕ Cell
 cell = mapped (λ p. record { block = p.0; index = p.1.0; field = p.1.1 }) (pair (numbered (codes "b")) (pair (numbered (codes ".")) (numbered (codes "."))))
@@ -124,7 +124,7 @@ action xs = behind_verb (verb_of (take (verb_len xs) xs)) (drop (verb_len xs) xs
 
 -- the line of an event
 unfoldable pub line : Reader ℕ Event
-line = mapped (λ p. record { tid = p.0; action = p.1.0 }) (pair small (pair (behind (codes " ") action) (word (codes "\n"))))
+line = mapped (λ p. record { tid = p.0; action = p.1.0 }) (pair unsigned (pair (behind (codes " ") action) (word (codes "\n"))))
 
 -- that number, and the end of the line
 abbrev pub counted : ℕ → ℕ → Reader ℕ (Unit {0})

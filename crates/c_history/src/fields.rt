@@ -13,9 +13,9 @@ const U32_LIMIT: u128 = 1 << 32;
 const I64_LIMIT: u128 = 1 << 63;
 
 /// A number of 32 bits, and what stands behind it.
-#[tactic(auto, unfolding(crate::specs::Readers::small))]
-pub(crate) fn small(bytes: &[u8]) -> Result<(u32, &[u8]), ReadError>
-    ensures { Gives (λ x. (x.0, x.1.now)) result (read.small bytes.now) }
+#[tactic(auto, unfolding(crate::specs::Readers::unsigned))]
+pub(crate) fn unsigned(bytes: &[u8]) -> Result<(u32, &[u8]), ReadError>
+    ensures { Gives (λ x. (x.0, x.1.now)) result (read.unsigned bytes.now) }
 {
     let (n, rest) = number(bytes, U32_LIMIT)?;
     Ok((n as u32, rest))
@@ -25,7 +25,7 @@ pub(crate) fn small(bytes: &[u8]) -> Result<(u32, &[u8]), ReadError>
 pub(crate) fn numbered<'a>(bytes: &'a [u8], before: &[u8]) -> Result<(u32, &'a [u8]), ReadError>
     ensures { Gives (λ x. (x.0, x.1.now)) result (read.numbered before.now bytes.now) }
 {
-    small(word(bytes, before)?)
+    unsigned(word(bytes, before)?)
 }
 
 fn negated(size: u128, rest: &[u8]) -> Result<(i64, &[u8]), ReadError>

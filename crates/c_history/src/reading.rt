@@ -10,7 +10,7 @@ ghost use Rattle.c_history.specs.Readers as read;
 
 use crate::actions::action;
 use crate::error::HistoryError;
-use crate::fields::{numbered, small};
+use crate::fields::{numbered, unsigned};
 use c_meaning::{Event, History};
 use pl_base::{Items, Memory};
 use pl_readers::bytes::word;
@@ -22,7 +22,7 @@ use std::alloc::Global;
 fn line(bytes: &[u8]) -> Result<(Event, &[u8]), ReadError>
     ensures { Gives (λ x. (x.0, x.1.now)) result (read.line bytes.now) }
 {
-    let (tid, rest) = small(bytes)?;
+    let (tid, rest) = unsigned(bytes)?;
     let (action, rest) = action(word(rest, b" ")?)?;
     Ok((Event { tid, action }, word(rest, b"\n")?))
 }
