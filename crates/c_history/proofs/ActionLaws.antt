@@ -1,17 +1,16 @@
 -- The readers of actions and lines take exactly their texts.
-use Rattle.std.proofs.Common.{◌≡◌, ◌∙◌, sym, ap, subst, refl, ℕ, zero, suc, ℤ, ◌+◌, ◌-◌, ◌<◌, ◌≤◌, ◌^◌, arith, ◌==◌, Bool, true, false, cond, List, [], ◌∷◌, ◌++◌, Option, Some, None, Result, Ok, Err, length, take, drop, append_assoc}
+use Rattle.std.proofs.Common.{◌≡◌, ◌∙◌, sym, ap, subst, refl, ℕ, ℤ, ◌+◌, ◌==◌, Bool, true, false, cond, List, [], ◌∷◌, ◌++◌, Option, Some, None, Ok, take, drop, append_assoc}
 use Rattle.std.specs.Prelude.{codes, FitsSigned}
-use Rattle.std.specs.Char.{is_ascii_digit, is_ascii_lowercase}
+use Rattle.std.specs.Char.{is_ascii_lowercase}
 use Rattle.std.specs.Fmt.{decimal, signed_decimal}
 use Rattle.std.specs.Int.{w64}
 use Rattle.std.specs.Str.{bytes_eq, IsUtf8}
 use lib.Utf8.{encode}
-use Rattle.std.specs.List.{prefix_len, list_all}
+use Rattle.std.specs.List.{list_all}
 use Rattle.std.proofs.lemmas.Bool.{and_parts, eqb-true, eq-eqb}
 use Rattle.std.proofs.lemmas.List.{take-append-drop}
 use Rattle.std.proofs.Math.Numerals.{one-add}
-use Rattle.pl_readers.specs.declared.error.Stop.{Stop}
-use Rattle.pl_readers.specs.Reader.{Reader, begins, next, nothing, mapped, refuse}
+use Rattle.pl_readers.specs.Reader.{Reader, nothing, mapped, refuse}
 use Rattle.pl_readers.specs.Reads.{Ends}
 use Rattle.pl_readers.specs.Bytes.{word}
 use Rattle.pl_readers.proofs.Correct.{bind_ok, fine_is}
@@ -21,12 +20,12 @@ use Rattle.pl_resource.specs.declared.value.Value.{Value}
 use Rattle.c_meaning.specs.declared.action.Action.{Action}
 use Rattle.c_meaning.specs.declared.action.Action.TheVariants as act
 use Rattle.c_meaning.specs.declared.action.Event.{Event}
-use Rattle.c_history.specs.Text.{truth_text, cell_text, value_text, action_text, event_text, event_line, last_line}
+use Rattle.c_history.specs.Text.{truth_text, cell_text, value_text, action_text, event_line, last_line}
 use Rattle.c_history.specs.Bounds.{IsU32, IsCellWithin, IsValueWithin, IsActionWithin, IsEventWithin}
 use Rattle.c_history.specs.Readers.{behind, pair, unsigned, signed, truth, numbered, cell, value_of, access, swap, made, done, verb_of, arguments, behind_verb, verb_len, action, line, counted, last}
 use Rattle.c_history.specs.declared.verbs.Verb.{Verb}
 use Rattle.c_history.specs.declared.verbs.Verb.TheVariants as verb
-use Rattle.c_history.proofs.Exactly.{NoDigit, Exact, always, Made, exact_behind, exact_pair, exact_unsigned, exact_numbered, exact_signed, exact_truth, exact_cell, exact_value, found_either, found_mapped, takes_mapped, exact_word, Found, found_behind, found_pair}
+use Rattle.c_history.proofs.Exactly.{Exact, always, exact_behind, exact_pair, exact_unsigned, exact_numbered, exact_signed, exact_truth, exact_cell, exact_value, found_mapped, takes_mapped, exact_word, Found, found_behind, found_pair}
 
 abbrev spaced_cell : Cell → List ℕ
 spaced_cell c = codes " " ++ cell_text c

@@ -1,5 +1,5 @@
 -- Readers that take exactly the texts of values.
-use Rattle.std.proofs.Common.{◌≡◌, ◌∙◌, sym, ap, subst, refl, ℕ, zero, suc, ℤ, pos, negsuc, ◌+◌, ◌-◌, ◌<◌, ◌≤◌, ◌^◌, arith, ◌==◌, Bool, true, false, cond, List, [], ◌∷◌, ◌++◌, Result, Ok, Err, length, append_assoc}
+use Rattle.std.proofs.Common.{◌≡◌, ◌∙◌, sym, ap, subst, refl, ℕ, zero, suc, ℤ, pos, negsuc, ◌+◌, ◌<◌, ◌≤◌, ◌^◌, arith, ◌==◌, Bool, true, false, cond, List, ◌++◌, Result, Ok, append_assoc}
 use Rattle.std.proofs.lemmas.Bool.{eqb-true}
 use Rattle.std.specs.Prelude.{codes}
 use Rattle.std.specs.Char.{is_ascii_digit}
@@ -7,12 +7,11 @@ use Rattle.std.specs.Fmt.{decimal, signed_decimal}
 use Rattle.std.specs.Int.{w64}
 use Rattle.std.specs.Prelude.{FitsSigned}
 use Rattle.pl_readers.specs.declared.error.Stop.{Stop}
-use Rattle.pl_readers.specs.Reader.{Reader, begins, next, either, nothing, mapped}
+use Rattle.pl_readers.specs.Reader.{Reader, begins, next, mapped}
 use Rattle.pl_readers.specs.Reads.{Ends, never}
-use Rattle.pl_readers.specs.Bytes.{Number, is, word, number}
+use Rattle.pl_readers.specs.Bytes.{is, word, number}
 use Rattle.pl_readers.proofs.Correct.{bind_ok, fine_is}
 use Rattle.pl_readers.proofs.Exact.{Reads-word, Reads-number, word_takes}
-use Rattle.pl_resource.specs.declared.value.Cell.{Cell}
 use Rattle.pl_resource.specs.declared.value.Value.{Value}
 use Rattle.pl_resource.specs.declared.value.Value.TheVariants as value
 use Rattle.c_history.specs.Text.{truth_text, cell_text, value_text}

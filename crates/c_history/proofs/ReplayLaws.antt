@@ -1,11 +1,12 @@
 -- Replays, one event more at a time.
-use Rattle.std.proofs.Common.{◌≡◌, ◌∙◌, sym, ap, subst, refl, ℕ, zero, suc, ℤ, ◌+◌, ◌≤◌, ◌<◌, arith, add-one, Bool, true, false, List, [], ◌∷◌, ◌++◌, Option, Some, None, Result, Ok, length, take, slice_get, slice_index_or, IsTrue, ◌↔◌}
+use Rattle.std.proofs.Common.{◌≡◌, ◌∙◌, sym, ap, subst, refl, ℕ, zero, suc, ℤ, ◌+◌, ◌≤◌, ◌<◌, arith, add-one, Bool, true, false, List, [], ◌∷◌, ◌++◌, Option, Some, None, Result, Ok, length, take, slice_get, slice_index_or, IsTrue, ◌↔◌, nat_lt}
+use Rattle.std.proofs.lemmas.Bool.{ltb-true, ltb-false}
 use Rattle.pl_resource.specs.declared.value.Fault.{Fault}
 use Rattle.c_syntax.specs.Tree.{Program}
 use Rattle.c_meaning.specs.declared.action.Event.{Event}
 use Rattle.c_meaning.specs.declared.action.Action.{Action}
 use Rattle.c_meaning.specs.Resolve.{functions_of}
-use Rattle.c_meaning.specs.Events.{State, is_enabled, event_of}
+use Rattle.c_meaning.specs.Events.{State, event_of}
 use Rattle.c_meaning.specs.Steps.{Step, Runs, Replay, start_of}
 use Rattle.c_history.specs.declared.replaying.Replayed.{Replayed}
 use Rattle.c_history.specs.declared.replaying.Replayed.TheVariants as replayed
@@ -126,10 +127,55 @@ not_both p input events k expected found state d r =
     let h = runs_front p (start_of p input) events k found state d.there r in
     d.no_step h.1 (subst (λ z. Step p z found.tid found h.1) (runs_once p (start_of p input) (take k events) h.0 d.before h.2 d.follows) h.3)
 
--- an answer is the right one where all events are steps
-pub exact : (p : Program) (input : List ℤ) (events : List Event) (answer : Replayed) (state : State) → Tells p input events answer → Replay p input events state → answer ≡ replayed.Follows
-exact p input events replayed.Follows state t r = refl
-exact p input events (replayed.Differs k expected found) state t r = absurd (not_both p input events k expected found state t r)
+get_front : (es : List Event) (j k : ℕ) (e : Event) → j < k → slice_get es j ≡ Some e → slice_get (take k es) j ≡ Some e
+get_front [] j k e lt at = absurd cc
+get_front (x ∷ es) j zero e lt at = absurd (omega arith)
+get_front (x ∷ es) zero (suc k) e lt at = at
+get_front (x ∷ es) (suc j) (suc k) e lt at = get_front es j k e (omega arith) at
+
+take_front : (es : List Event) (j k : ℕ) → j < k → take j (take k es) ≡ take j es
+take_front [] zero zero lt = refl
+take_front [] zero (suc k) lt = refl
+take_front [] (suc j) zero lt = refl
+take_front [] (suc j) (suc k) lt = refl
+take_front (x ∷ es) j zero lt = absurd (omega arith)
+take_front (x ∷ es) zero (suc k) lt = refl
+take_front (x ∷ es) (suc j) (suc k) lt = ap (λ (zs : List Event). x ∷ zs) (take_front es j k (omega arith))
+
+module _ (p : Program) (input : List ℤ) (events : List Event) where
+  not_before : (j k : ℕ) (d e : Option Event) (f g : Event) → DiffersAt p input events j d f → DiffersAt p input events k e g → j < k → ⊥
+  not_before j k d e f g one two lt =
+      let h = runs_front p (start_of p input) (take k events) j f two.before (get_front events j k f lt one.there) two.follows in
+      let same = runs_once p (start_of p input) (take j events) h.0 one.before (subst (λ es. Runs p (start_of p input) es h.0) (take_front events j k lt) h.2) one.follows in
+      one.no_step h.1 (subst (λ z. Step p z f.tid f h.1) same h.3)
+
+  places_by : (j k : ℕ) (d e : Option Event) (f g : Event) → DiffersAt p input events j d f → DiffersAt p input events k e g → (t u : Bool) → nat_lt j k ≡ t → nat_lt k j ≡ u → j ≡ k
+  places_by j k d e f g one two true u is at = absurd (not_before j k d e f g one two (ltb-true j k is))
+  places_by j k d e f g one two false true is at = absurd (not_before k j e d g f two one (ltb-true k j at))
+  places_by j k d e f g one two false false is at = let a = ltb-false j k is in let b = ltb-false k j at in omega arith
+
+  expects_once : (before : State) (t : ℕ) (d e : Option Event) → Expects p before t d → Expects p before t e → d ≡ e
+  expects_once before t None None one two = refl
+  expects_once before t None (Some e) one two = not_false (sym one ∙ two.1.enabled)
+  expects_once before t (Some d) None one two = not_false (sym two ∙ one.1.enabled)
+  expects_once before t (Some d) (Some e) one two = ap (λ (z : Event). Some z) (step_once p before t d e one.0 two.0 one.1 two.1).0
+
+  differs_once : (j k : ℕ) (d e : Option Event) (f g : Event) → DiffersAt p input events j d f → DiffersAt p input events k e g → replayed.Differs j d f ≡ replayed.Differs k e g
+  differs_once j k d e f g one two =
+      let place : j ≡ k = places_by j k d e f g one two (nat_lt j k) (nat_lt k j) refl refl in
+      let there : slice_get events k ≡ Some f = ap (λ n. slice_get events n) (sym place) ∙ one.there in
+      let found : f ≡ g = some_is f g (sym there ∙ two.there) in
+      let at_k : Replay p input (take k events) one.before = subst (λ n. Replay p input (take n events) one.before) place one.follows in
+      let state = runs_once p (start_of p input) (take k events) one.before two.before at_k two.follows in
+      let moved : Expects p two.before g.tid d = subst (λ (z : Event). Expects p two.before z.tid d) found (subst (λ (z : State). Expects p z f.tid d) state one.expects) in
+      ap (λ n. replayed.Differs n d f) place ∙ ap (λ o. replayed.Differs k o f) (expects_once two.before g.tid d e moved two.expects) ∙ ap (λ (z : Event). replayed.Differs k e z) found
+
+  -- one answer is right
+  pub one_answer : (a b : Replayed) → Tells p input events a → Tells p input events b → a ≡ b
+  one_answer replayed.Follows replayed.Follows one two = refl
+  one_answer replayed.Follows (replayed.Differs k e g) one two = absurd (not_both p input events k e g one.0 two one.1)
+  one_answer (replayed.Differs j d f) replayed.Follows one two = absurd (not_both p input events j d f two.0 one two.1)
+  one_answer (replayed.Differs j d f) (replayed.Differs k e g) one two = differs_once j k d e f g one two
 
 -- all of the events
 pub whole : (p : Program) (input : List ℤ) (xs events : List Event) (k : ℕ) (state : State) → xs ≡ events → length xs ≤ k → Reached p input xs k state → Replay p input events state
@@ -145,8 +191,8 @@ module _ (p : Program) (input : List ℤ) (xs events : List Event) (k : ℕ) (be
       subst (λ es. DiffersAt p input es k expected (slice_index_or xs k d)) is
       (differs p input xs k before after (slice_index_or xs k d) expected r (at_read xs k d lt) n (not_so is_event told no_event))
 
-  pub exact_there : is_event ≡ false → (state : State) → Replay p input events state → replayed.Differs k expected (slice_index_or xs k d) ≡ replayed.Follows
-  exact_there no_event state replays = exact p input events (replayed.Differs k expected (slice_index_or xs k d)) state (differs_there no_event) replays
+  pub exact_there : is_event ≡ false → (answer : Replayed) → Tells p input events answer → replayed.Differs k expected (slice_index_or xs k d) ≡ answer
+  exact_there no_event answer tells = one_answer p input events (replayed.Differs k expected (slice_index_or xs k d)) answer (differs_there no_event) tells
 
   -- the event at one place is the thread's next
   pub reached_there : is_event ≡ true → OneMore before after → Reached p input xs (k + 1) after

@@ -1,5 +1,5 @@
 -- The test on events tells whether they are the same.
-use Rattle.std.proofs.Common.{◌≡◌, ◌∙◌, ap, refl, ℕ, ℤ, ◌&&◌, ◌==◌, Bool, true, false, ◌↔◌, IsTrue, Some}
+use Rattle.std.proofs.Common.{◌≡◌, ◌∙◌, ap, refl, ℕ, ℤ, ◌&&◌, ◌==◌, Bool, false, ◌↔◌, IsTrue, Some}
 use Rattle.std.specs.Bool.{Decides}
 use Rattle.std.specs.Ordering.{int_eq}
 use Rattle.std.proofs.Math.Bool.{beq}

@@ -1,5 +1,5 @@
 -- The readers of the lines of a history, for private functions alone: lemmas tie them to the texts of `Text`.
-use Rattle.std.specs.Prelude.{◌≡◌, ℕ, zero, suc, ◌+◌, ◌^◌, ◌==◌, ℤ, pos, negsuc, Bool, true, false, cond, List, [], ◌∷◌, ◌++◌, codes, length, take, drop, flat_map, Option, Some, None, Err, Ok}
+use Rattle.std.specs.Prelude.{◌≡◌, ℕ, zero, suc, ◌+◌, ◌^◌, ◌==◌, ℤ, pos, negsuc, Bool, true, false, cond, List, ◌++◌, codes, take, drop, flat_map, Option, Some, None, Err, Ok}
 use Rattle.std.specs.List.{prefix_len, AllByRecursion}
 use Rattle.std.specs.Char.{is_ascii_lowercase}
 use Rattle.std.specs.Str.{bytes_eq}

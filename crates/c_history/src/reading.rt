@@ -68,7 +68,7 @@ fn at_line(error: ReadError, line: u32) -> HistoryError
 }
 
 /// The history of which the bytes are the text. `BadHistory` names the first line, from 1, that no history has; a last
-/// line with another count, one that isn't ended by LF, and one that is missing count.
+/// line with another count, one that isn't ended by LF, and one that is missing count. `Memory` comes only for want of memory.
 pub fn read_history(alloc: Global, bytes: &[u8]) -> Result<History, HistoryError>
     requires { length bytes.now < 2 ^ 32 - 1 }
     ensures within { IfOk result IsWithin }

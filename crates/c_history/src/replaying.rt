@@ -2,11 +2,9 @@
 
 ghost use Rattle.std.specs.Prelude.{◌≡◌, ◌↔◌, ◌<◌, ◌≤◌, ◌-◌, ◌^◌, IfOk, IsTrue, OnOk, Some, length, suc};
 ghost use Rattle.c_syntax.specs.Plain.{plain_program};
-ghost use Rattle.c_meaning.specs.Events.{State};
 ghost use Rattle.c_meaning.specs.States.{shown, IsFor};
-ghost use Rattle.c_meaning.specs.Steps.{Replay};
 ghost use Rattle.c_history.specs.Replays.{Tells, IsNext};
-ghost use Rattle.c_history.specs.declared.replaying.Replayed.TheVariants.{Follows};
+ghost use Rattle.c_history.specs.declared.replaying.Replayed.{Replayed};
 
 use c_meaning::{CState, Event, History};
 use c_syntax::CProgram;
@@ -24,7 +22,7 @@ pub enum Replayed {
 }
 
 /// Whether the events are those of a run of the program with that input, one step of an enabled thread each. A race or a
-/// bound on events ends no replay.
+/// bound on events ends no replay. `Memory` comes only for want of memory.
 pub fn replay(
     alloc: Global,
     program: &CProgram,
@@ -33,7 +31,7 @@ pub fn replay(
 ) -> Result<Replayed, Memory>
     requires { length history.now.events < 2 ^ 32 - 1 }
     ensures tells { IfOk result (Tells (plain_program program.now) input.now history.now.events) }
-    ensures exact { (state : State) → Replay (plain_program program.now) input.now history.now.events state → IfOk result (λ answer. answer ≡ Follows) }
+    ensures exact { (answer : Replayed) → Tells (plain_program program.now) input.now history.now.events answer → IfOk result (λ given. given ≡ answer) }
 {
     let events = history.events.as_slice();
     let mut state = CState::start(alloc, program, input)?;

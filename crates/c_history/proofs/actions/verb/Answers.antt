@@ -1,4 +1,3 @@
-use Rattle.std.proofs.Common.{◌≡◌}
 use Rattle.c_history.proofs.ActionLaws.{no_verb}
 use Rattle.c_history.proofs.actions.verb.Goals as goal
 

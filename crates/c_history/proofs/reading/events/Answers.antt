@@ -1,5 +1,4 @@
-use Rattle.std.proofs.Common.{◌≡◌}
-use Rattle.c_history.proofs.LineLaws.{far_first, far_more, far_shorter, far_last}
+use Rattle.c_history.proofs.LineLaws.{far_first, far_more, far_shorter}
 use Rattle.c_history.proofs.reading.events.Goals as goal
 
 pub lines-init : goal.lines-init

@@ -1,4 +1,4 @@
-use Rattle.std.proofs.Common.{◌≡◌, ◌<◌, ◌+◌, ◌∙◌, arith}
+use Rattle.std.proofs.Common.{◌+◌, ◌∙◌, arith}
 use Rattle.c_history.proofs.LineLaws.{refused_header, count_small, refused_last, refused_behind_end, text_read, exact_err, never_refused, one_history, is_empty_is, not_empty_is}
 use Rattle.c_history.proofs.reading.read_history.Goals as goal
 

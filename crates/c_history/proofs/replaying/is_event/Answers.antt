@@ -1,5 +1,4 @@
-use Rattle.std.proofs.Common.{◌≡◌}
-use Rattle.c_history.proofs.SameEvents.{event_decides, some_decides}
+use Rattle.c_history.proofs.SameEvents.{some_decides}
 use Rattle.c_history.proofs.replaying.is_event.Goals as goal
 
 pub returns-in-Some : goal.returns-in-Some

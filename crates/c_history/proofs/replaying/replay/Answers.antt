@@ -1,7 +1,8 @@
-use Rattle.std.proofs.Common.{rules, ◌≡◌, ◌<◌, ◌≤◌, length, arith, ap, sym, ◌∙◌, subst}
+use Rattle.std.proofs.Common.{length, arith, ap}
 use Rattle.c_syntax.specs.Plain.{plain_program}
 use Rattle.c_meaning.specs.States.{shown}
-use Rattle.c_history.proofs.ReplayLaws.{reached_first, exact_there, reached_there}
+use Rattle.c_history.proofs.ReplayLaws.{reached_first, exact_there, reached_there, one_answer, whole}
+use Rattle.c_history.specs.declared.replaying.Replayed.TheVariants.{Follows}
 use Rattle.c_history.proofs.replaying.replay.Goals as goal
 
 pub loop-k-init : goal.loop-k-init
@@ -37,3 +38,9 @@ loop-k-preserved c = record {
       c.as_slice-events.ensures c.loop-k-test.true c.loop-k.invariant.reached c.in_ok-expected.ensures.event c.is_event.ensures c.if-not-is_event.false
       (record { blocks = c.in_ok-expected.ensures.blocks; locks = c.in_ok-expected.ensures.locks; threads = c.in_ok-expected.ensures.threads });
 }
+
+pub returns-clause-exact : goal.returns-clause-exact
+returns-clause-exact c answer tells =
+    one_answer (plain_program c.args.program.now) c.args.input.now c.args.history.now.events Follows answer
+    (shown c.loop-k.state, whole (plain_program c.args.program.now) c.args.input.now c.as_slice-events.result.now c.args.history.now.events c.loop-k.k (shown c.loop-k.state) c.as_slice-events.ensures (omega arith) c.loop-k.invariant.reached)
+    tells
