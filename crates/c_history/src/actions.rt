@@ -42,69 +42,37 @@ fn made(bytes: &[u8]) -> Result<(u32, u32, &[u8]), ReadError>
     Ok((block, count, rest))
 }
 
+/// A number of 64 bits behind a blank.
+fn spaced(bytes: &[u8]) -> Result<(i64, &[u8]), ReadError>
+    ensures { Gives (λ x. (x.0, x.1.now)) result (read.behind (codes " ") read.signed bytes.now) }
+{
+    signed(word(bytes, b" ")?)
+}
+
 /// What stands behind a verb.
 #[tactic(auto, unfolding(crate::specs::Readers::arguments))]
 fn arguments(verb: Verb, rest: &[u8]) -> Result<(Action, &[u8]), ReadError>
     ensures { Gives (λ x. (x.0, x.1.now)) result (read.arguments verb rest.now) }
 {
     match verb {
-        Verb::Load => {
-            let (cell, value, rest) = access(rest)?;
-            Ok((Action::Load(cell, value), rest))
-        }
-        Verb::Store => {
-            let (cell, value, rest) = access(rest)?;
-            Ok((Action::Store(cell, value), rest))
-        }
-        Verb::Cas => {
-            let (cell, seen, stored, rest) = swap(rest)?;
-            Ok((Action::Cas(cell, seen, stored), rest))
-        }
-        Verb::Alloc => {
-            let (block, count, rest) = made(rest)?;
-            Ok((Action::Alloc(block, count), rest))
-        }
-        Verb::Free => {
-            let (block, rest) = numbered(rest, b" b")?;
-            Ok((Action::Free(block), rest))
-        }
-        Verb::NewLock => {
-            let (lock, rest) = numbered(rest, b" k")?;
-            Ok((Action::NewLock(lock), rest))
-        }
-        Verb::Acquire => {
-            let (lock, rest) = numbered(rest, b" k")?;
-            Ok((Action::Acquire(lock), rest))
-        }
-        Verb::Release => {
-            let (lock, rest) = numbered(rest, b" k")?;
-            Ok((Action::Release(lock), rest))
-        }
-        Verb::FreeLock => {
-            let (lock, rest) = numbered(rest, b" k")?;
-            Ok((Action::FreeLock(lock), rest))
-        }
-        Verb::Fork => {
-            let (child, rest) = numbered(rest, b" ")?;
-            Ok((Action::Fork(child), rest))
-        }
-        Verb::Join => {
-            let (child, rest) = numbered(rest, b" ")?;
-            Ok((Action::Join(child), rest))
-        }
-        Verb::Print => {
-            let (n, rest) = signed(word(rest, b" ")?)?;
-            Ok((Action::Print(n), rest))
-        }
-        Verb::Read => {
-            let (n, rest) = signed(word(rest, b" ")?)?;
-            Ok((Action::Read(n), rest))
-        }
+        Verb::Load => access(rest).map(|(cell, value, rest)| (Action::Load(cell, value), rest)),
+        Verb::Store => access(rest).map(|(cell, value, rest)| (Action::Store(cell, value), rest)),
+        Verb::Cas => swap(rest).map(|(cell, seen, stored, rest)| (
+            Action::Cas(cell, seen, stored),
+            rest,
+        )),
+        Verb::Alloc => made(rest).map(|(block, count, rest)| (Action::Alloc(block, count), rest)),
+        Verb::Free => numbered(rest, b" b").map(|(block, rest)| (Action::Free(block), rest)),
+        Verb::NewLock => numbered(rest, b" k").map(|(lock, rest)| (Action::NewLock(lock), rest)),
+        Verb::Acquire => numbered(rest, b" k").map(|(lock, rest)| (Action::Acquire(lock), rest)),
+        Verb::Release => numbered(rest, b" k").map(|(lock, rest)| (Action::Release(lock), rest)),
+        Verb::FreeLock => numbered(rest, b" k").map(|(lock, rest)| (Action::FreeLock(lock), rest)),
+        Verb::Fork => numbered(rest, b" ").map(|(child, rest)| (Action::Fork(child), rest)),
+        Verb::Join => numbered(rest, b" ").map(|(child, rest)| (Action::Join(child), rest)),
+        Verb::Print => spaced(rest).map(|(n, rest)| (Action::Print(n), rest)),
+        Verb::Read => spaced(rest).map(|(n, rest)| (Action::Read(n), rest)),
         Verb::Turn => Ok((Action::Turn, rest)),
-        Verb::Call => {
-            let (function, rest) = numbered(rest, b" ")?;
-            Ok((Action::Call(function), rest))
-        }
+        Verb::Call => numbered(rest, b" ").map(|(function, rest)| (Action::Call(function), rest)),
         Verb::Return => Ok((Action::Return, rest)),
     }
 }
