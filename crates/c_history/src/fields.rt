@@ -1,0 +1,101 @@
+//! The parts of a line: numbers, values and cells.
+
+ghost use Rattle.std.specs.Prelude.{◌≡◌, ◌<◌, ◌≤◌, ◌+◌, ◌^◌, IfOk, codes, length};
+ghost use Rattle.pl_readers.specs.Given.{Gives};
+ghost use Rattle.c_history.specs.Readers as read;
+
+use pl_readers::bytes::{begins, number, word};
+use pl_readers::{ReadError, refused};
+use pl_resource::{Cell, Value};
+
+const U32_LIMIT: u128 = 1 << 32;
+
+const I64_LIMIT: u128 = 1 << 63;
+
+/// A number of 32 bits, and what stands behind it.
+#[tactic(auto, unfolding(crate::specs::Readers::unsigned))]
+pub(crate) fn unsigned(bytes: &[u8]) -> Result<(u32, &[u8]), ReadError>
+    ensures { Gives (λ x. (x.0, x.1.now)) result (read.unsigned bytes.now) }
+{
+    let (n, rest) = number(bytes, U32_LIMIT)?;
+    Ok((n as u32, rest))
+}
+
+/// A number of 32 bits behind a word.
+pub(crate) fn numbered<'a>(bytes: &'a [u8], before: &[u8]) -> Result<(u32, &'a [u8]), ReadError>
+    ensures { Gives (λ x. (x.0, x.1.now)) result (read.numbered before.now bytes.now) }
+{
+    unsigned(word(bytes, before)?)
+}
+
+fn negated(size: u128, rest: &[u8]) -> Result<(i64, &[u8]), ReadError>
+    requires { size < 2 ^ 63 + 1 }
+    ensures { Gives (λ x. (x.0, x.1.now)) result (read.negated size rest.now) }
+{
+    if size == 0 {
+        return Err(refused(rest));
+    }
+    Ok((-1 - (size - 1) as i64, rest))
+}
+
+/// A number of 64 bits, with a minus in front where it is below 0.
+#[tactic(auto, unfolding(crate::specs::Readers::signed))]
+pub(crate) fn signed(bytes: &[u8]) -> Result<(i64, &[u8]), ReadError>
+    ensures { Gives (λ x. (x.0, x.1.now)) result (read.signed bytes.now) }
+{
+    if begins(bytes, b'-') {
+        let rest = word(bytes, b"-")?;
+        let (size, rest) = number(rest, I64_LIMIT + 1)?;
+        return negated(size, rest);
+    }
+    let (n, rest) = number(bytes, I64_LIMIT)?;
+    Ok((n as i64, rest))
+}
+
+#[tactic(auto, unfolding(crate::specs::Readers::truth))]
+pub(crate) fn truth(bytes: &[u8]) -> Result<(bool, &[u8]), ReadError>
+    ensures { Gives (λ x. (x.0, x.1.now)) result (read.truth bytes.now) }
+{
+    if begins(bytes, b't') {
+        return Ok((true, word(bytes, b"true")?));
+    }
+    Ok((false, word(bytes, b"false")?))
+}
+
+#[tactic(auto, unfolding(crate::specs::Readers::cell))]
+pub(crate) fn cell(bytes: &[u8]) -> Result<(Cell, &[u8]), ReadError>
+    ensures { Gives (λ x. (x.0, x.1.now)) result (read.cell bytes.now) }
+{
+    let (block, rest) = numbered(bytes, b"b")?;
+    let (index, rest) = numbered(rest, b".")?;
+    let (field, rest) = numbered(rest, b".")?;
+    let cell = Cell {
+        block,
+        index,
+        field,
+    };
+    Ok((cell, rest))
+}
+
+#[tactic(auto, unfolding(crate::specs::Readers::value_of))]
+pub(crate) fn value(bytes: &[u8]) -> Result<(Value, &[u8]), ReadError>
+    ensures { Gives (λ x. (x.0, x.1.now)) result (read.value_of bytes.now) }
+{
+    if begins(bytes, b'b') {
+        let (block, rest) = numbered(bytes, b"b")?;
+        return Ok((Value::Block(block), rest));
+    }
+    if begins(bytes, b'k') {
+        let (lock, rest) = numbered(bytes, b"k")?;
+        return Ok((Value::Lock(lock), rest));
+    }
+    if begins(bytes, b'n') {
+        return Ok((Value::Null, word(bytes, b"null")?));
+    }
+    if begins(bytes, b't') || begins(bytes, b'f') {
+        let (b, rest) = truth(bytes)?;
+        return Ok((Value::Truth(b), rest));
+    }
+    let (n, rest) = signed(bytes)?;
+    Ok((Value::Int(n), rest))
+}
