@@ -1,0 +1,5 @@
+pub mod Lists
+pub mod Races
+pub mod Ending
+pub mod Stepping
+pub mod Keeping
