@@ -240,7 +240,7 @@ live_now p F s s' t e ended n m xs ys zs one over before_is after_is same is are
     subst (Are (is_live s') 0) (sym (is ∙ made)) (live_after p F s s' t e xs one are)
 
 pub sees_new : (F G : List Function) (bound limit : ℕ) (s : State) (count number : ℕ) (live enabled : List ℕ) (e : Option RunEnd) → G ≡ F → limit ≡ bound → number ≡ count → Are (is_live s) 0 live → enabled ≡ filter (is_enabled G s) live → e ≡ end_among (map (stands (next_of G s)) live) enabled limit number → Sees F bound s count live enabled e
-sees_new F G bound limit s count number live enabled e same_code same_bound same_count are some_enabled ends = record {
+sees_new F G bound limit s before_count number live enabled e same_code same_bound same_count are some_enabled ends = record {
   live_are = are;
   enabled_are = some_enabled ∙ ap (λ z. filter (is_enabled z s) live) same_code;
   end_is = ends ∙ (ap (λ z. end_among (map (stands (next_of z s)) live) enabled limit number) same_code ∙ (ap (λ z. end_among (map (stands (next_of F s)) live) enabled z number) same_bound ∙ ap (end_among (map (stands (next_of F s)) live) enabled bound) same_count));
