@@ -3,3 +3,4 @@ pub mod Races
 pub mod Ending
 pub mod Stepping
 pub mod Keeping
+pub mod Crossing

@@ -25,11 +25,15 @@ pub struct Ran {
 // A part for each worker, one for the caller, and more.
 const PARTS: u64 = 128;
 
-/// The machine, and what sleeping workers wait on.
+/// The machine, what sleeping workers wait on, and how many workers there are.
 #[derive(Drop)]
 struct Shared<J: Naming> {
     machine: Mutex<Machine<J>>,
     changed: Condvar,
+    bound: u32,
+    workers: u32,
+    ghost limit: { bound ≡ J.bound },
+    ghost some: { 0 < workers },
 }
 
 /// Runs a program on an input by so many workers until an end holds, which is looked for at the start and after every event.
@@ -98,8 +102,10 @@ fn run_named<J: Naming + Send + Sync, R: Threads + Wait + Sync, G: Gate>(
     let shared = Shared {
         machine: Mutex::new(machine),
         changed: Condvar::new(),
+        bound,
+        workers,
     };
-    run_crew(rt, alloc, &shared, program, bound, workers, gate, part);
+    run_crew(rt, alloc, &shared, program, gate, part);
     let Shared { machine, .. } = shared;
     let machine = machine.into_inner();
     // The workers stop before an end only for want of memory.
@@ -118,32 +124,33 @@ fn run_crew<'x, J: Naming + Send + Sync, R: Threads + Wait + Sync, G: Gate>(
     alloc: Global,
     shared: &'x Shared<J>,
     program: &'x CProgram,
-    bound: u32,
-    workers: u32,
     gate: &'x G,
     part: Part<J>,
 )
-    requires run { (plain_program program.now ≡ J.program) × (bound ≡ J.bound) }
-    requires workers { 0 < workers }
+    requires { plain_program program.now ≡ J.program }
 {
     thread::scope(
         thread::scope_env(),
         rt,
         move |scope|
-            requires { (plain_program program.now ≡ J.program) × (bound ≡ J.bound) × (0 < workers) }
+            requires { plain_program program.now ≡ J.program }
         {
             let mut refused = Vec::new(alloc);
-            for worker in 1..workers {
+            for worker in 1..shared.workers {
                 let started = scope.spawn(
                     move ||
-                        requires { (plain_program program.now ≡ J.program) × (bound ≡ J.bound) × (0 < workers) }
-                    { work(rt, alloc, shared, program, bound, workers, gate, worker) },
+                        requires { plain_program program.now ≡ J.program }
+                    { work(rt, shared, program, gate, worker) },
                 );
                 if started.is_err() {
                     take_over(rt, shared, worker, &mut refused);
                 }
             }
-            serve(rt, shared, program, bound, workers, gate, part, refused)
+            if refused.is_empty() {
+                serve(rt, shared, program, gate, part);
+            } else {
+                serve_all(rt, shared, program, gate, part, refused);
+            }
         },
     )
 }
@@ -174,52 +181,52 @@ fn give_up<J: Naming>(rt: &impl Wait, shared: &Shared<J>) {
 // A worker of a thread of its own.
 fn work<J: Naming, R: Wait, G: Gate>(
     rt: &R,
-    alloc: Global,
     shared: &Shared<J>,
     program: &CProgram,
-    bound: u32,
-    workers: u32,
     gate: &G,
     worker: u32,
 )
-    requires run { (plain_program program.now ≡ J.program) × (bound ≡ J.bound) }
-    requires workers { 0 < workers }
+    requires { plain_program program.now ≡ J.program }
 {
     let dealt = shared.machine.lock(rt).deal(worker);
     match dealt {
-        Some(part) => serve(
-            rt,
-            shared,
-            program,
-            bound,
-            workers,
-            gate,
-            part,
-            Vec::new(alloc),
-        ),
+        Some(part) => serve(rt, shared, program, gate, part),
         None => give_up(rt, shared),
     }
 }
 
-// Makes attempts until the run is over, as one worker and as those whose threads were refused.
+// Makes attempts until the run is over.
 fn serve<J: Naming, R: Wait, G: Gate>(
     rt: &R,
     shared: &Shared<J>,
     program: &CProgram,
-    bound: u32,
-    workers: u32,
+    gate: &G,
+    mut part: Part<J>,
+)
+    requires { plain_program program.now ≡ J.program }
+{
+    for _ in rt.forever() {
+        if attempt(rt, shared, program, gate, &mut part, true) == Attempt::Over {
+            break;
+        }
+    }
+}
+
+// The same as one worker and as those whose threads were refused.
+fn serve_all<J: Naming, R: Wait, G: Gate>(
+    rt: &R,
+    shared: &Shared<J>,
+    program: &CProgram,
     gate: &G,
     mut part: Part<J>,
     mut refused: Vec<Part<J>>,
 )
-    requires run { (plain_program program.now ≡ J.program) × (bound ≡ J.bound) }
-    requires workers { 0 < workers }
+    requires { plain_program program.now ≡ J.program }
 {
-    let sleeps = refused.is_empty();
     for _ in rt.forever() {
-        let mut came = attempt(rt, shared, program, bound, workers, gate, &mut part, sleeps);
+        let mut came = attempt(rt, shared, program, gate, &mut part, false);
         for other in refused.iter_mut() {
-            came = came.or(attempt(rt, shared, program, bound, workers, gate, other, false));
+            came = came.or(attempt(rt, shared, program, gate, other, false));
         }
         match came {
             Attempt::Stepped => {}
@@ -234,19 +241,16 @@ fn attempt<J: Naming, R: Wait, G: Gate>(
     rt: &R,
     shared: &Shared<J>,
     program: &CProgram,
-    bound: u32,
-    workers: u32,
     gate: &G,
     part: &mut Part<J>,
     sleeps: bool,
 ) -> Attempt
-    requires run { (plain_program program.now ≡ J.program) × (bound ≡ J.bound) }
-    requires workers { 0 < workers }
+    requires { plain_program program.now ≡ J.program }
 {
     gate.before(part.worker(), part.done());
     let mut machine = shared.machine.lock(rt);
-    let came = machine.attempt(program, bound, workers, part);
-    if machine.wakes(workers) {
+    let came = machine.attempt(program, shared.bound, shared.workers, part);
+    if machine.wakes(shared.workers) {
         shared.changed.notify_all();
     }
     if sleeps && came == Attempt::Idle {
