@@ -10,3 +10,6 @@ mod standing;
 pub use run::{Ran, run_threads};
 pub use run_end::RunEnd;
 
+
+#[cfg(test)]
+mod tests;
