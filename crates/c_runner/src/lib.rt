@@ -10,6 +10,5 @@ mod standing;
 pub use run::{Ran, run_threads};
 pub use run_end::RunEnd;
 
-
 #[cfg(test)]
 mod tests;

@@ -150,9 +150,7 @@ fn is_enabled(state: &CState, t: u32, next: &Next) -> bool
     ensures { result ≡ is_enabled (runs state.now) (shown state.now) t }
 {
     match next {
-        Next::Act(touch) => {
-            (touch.lock.is_none() && touch.child.is_none()) || state.enabled(t)
-        }
+        Next::Act(touch) => { (touch.lock.is_none() && touch.child.is_none()) || state.enabled(t) }
         _ => false,
     }
 }

@@ -86,10 +86,8 @@ const CELL: Cell = Cell {
 fn did(ran: &Ran, wanted: &[(u32, Action)]) -> bool {
     let events = ran.history.events.as_slice();
     events.len() == wanted.len()
-        && events
-            .iter()
-            .zip(wanted.iter())
-            .all(|(event, (tid, action))| event.tid == *tid && event.action == *action)
+        && events.iter().zip(wanted.iter()).all(|(event, (tid, action))| event.tid == *tid
+            && event.action == *action)
 }
 
 fn count(ran: &Ran, action: Action) -> usize {

@@ -38,9 +38,9 @@ invariant_of-self-2 g c =
     record {
       program = code;
       kept = kept_more p g.J.Naming.input bound s old.history.items (vec_capacity old.history) c.args.tid e next c.push_reserved.new.self.items (vec_capacity c.push_reserved.new.self) c.self.invariant.kept is_open one c.push_reserved.ensures.items c.push_reserved.ensures.capacity
-      (omega (arith, c.step-event.ensures.blocks, ap (λ z. length z.world.blocks) same))
-      (omega (arith, c.step-event.ensures.locks, ap (λ z. length z.world.locks) same))
-      (omega (arith, c.step-event.ensures.threads, ap (λ z. length z.threads) same));
+          (omega (arith, c.step-event.ensures.blocks, ap (λ z. length z.world.blocks) same))
+          (omega (arith, c.step-event.ensures.locks, ap (λ z. length z.world.locks) same))
+          (omega (arith, c.step-event.ensures.threads, ap (λ z. length z.threads) same));
       shares = omega (arith, c.self.invariant.shares, c.add.ensures.total, c.audit.ensures.total, c.push_reserved.ensures.len);
       undealt = c.self.invariant.undealt;
       sees = sees_new (functions_of p) (runs c.step-event.new.self) bound c.args.bound next (length c.push_reserved.new.self.items) c.len.result c.renew.new.self.unfinished.items c.renew.new.self.enabled.items c.renew.new.self.end code c.requires.run.1 (omega (arith, c.len.ensures)) (subst (λ z. Are (is_live next) 0 z.items) (sym c.renew.ensures.unfinished) live) c.renew.ensures.enabled c.renew.ensures.end;
