@@ -14,12 +14,13 @@ use Rattle.c_meaning.specs.Tree.{Function}
 use Rattle.c_meaning.specs.Resolve.{functions_of}
 use Rattle.c_meaning.specs.Effects.{Turn, Past, Calls, Forks, Returns}
 use Rattle.c_meaning.specs.Events.{State, Thread, Frame, Done, thread_of, next_of, next_from, next_by, is_enabled, ready, event_of, event_from, event_of_frame, state_after, frames_after, frame_behind, forked, called, begun}
-use Rattle.c_meaning.specs.Steps.{Step, Runs, Replay, start_of}
+use Rattle.c_meaning.specs.Steps.{Step, Runs, Replay, start_of, race_of}
 use Rattle.c_runner.specs.Numbers.{Are, followed}
-use Rattle.c_runner.specs.Ends.{is_unended}
+use Rattle.c_runner.specs.Ends.{is_unended, NoRace, NoFault}
 use Rattle.c_runner.specs.Kept.{is_live, Sees}
 use Rattle.c_runner.specs.declared.run_end.RunEnd.{RunEnd}
-use Rattle.c_runner.specs.Standings.{is_ended, stands, end_among}
+use Rattle.c_runner.specs.Standings.{is_ended, stands, end_among, AreQuiet}
+use Rattle.c_runner.proofs.Still.{race_still}
 use Rattle.c_runner.proofs.Lists.{Place, before, here, behind, place, unlike, with_one, followed_are}
 
 past_end : {A : Type 0} (xs : List A) (i : ℕ) (d : A) → length xs ≤ i → slice_index_or xs i d ≡ d
@@ -136,6 +137,11 @@ module _ (s s' : State) (t : ℕ) (c : Changed s.threads s'.threads t) (made : t
       let w : u < length (slice_set s.threads t c.now) = omega (arith, less, set_length s.threads t c.now) in
       ap is_unended (ap (λ z. slice_index_or z u []) c.is ∙ (get_front (slice_set s.threads t c.now) c.more u [] w ∙ get_other s.threads t u c.now [] other))
 
+  thread_same : (u : ℕ) → (u ≡ t → ⊥) → u < length s.threads → thread_of s' u ≡ thread_of s u
+  thread_same u other less =
+      let w : u < length (slice_set s.threads t c.now) = omega (arith, less, set_length s.threads t c.now) in
+      ap (λ z. slice_index_or z u []) c.is ∙ (get_front (slice_set s.threads t c.now) c.more u [] w ∙ get_other s.threads t u c.now [] other)
+
   at_end : nat_lt (length s.threads) (length s'.threads) ≡ true → is_live s' (length s.threads) ≡ true
   at_end h = by c.more c.is c.begins count h
     where
@@ -221,6 +227,21 @@ are_all P test k (x ∷ xs) gives h = All-cons P x xs (gives x h.2) (are_all P t
 -- they were all made
 pub live_below : (s : State) (live : List ℕ) → Are (is_live s) 0 live → All (λ t. t < length s.threads) live
 live_below s live h = are_all (λ t. t < length s.threads) (is_live s) 0 live (live_made s) h
+
+-- threads that have not moved don't race, where none did and none stood before a fault
+pub quiet_after : (p : Program) (F : List Function) (s s' : State) (t : ℕ) (e : Event) → F ≡ functions_of p → Step p s t e s' → NoRace p s → NoFault p s → AreQuiet (next_of F s') t (length s.threads)
+quiet_after p F s s' t e code one race fault =
+    let G = functions_of p in
+    let c = changed p s t e s' one in
+    let made : t < length s.threads = enabled_made G s t one.enabled in
+    let quiet : AreQuiet (next_of G s') t (length s.threads) = λ i j less it jt below.
+    let first : thread_of s' i ≡ thread_of s i = thread_same s s' t c made i it (omega (arith, less, below)) in
+    let second : thread_of s' j ≡ thread_of s j = thread_same s s' t c made j jt below in
+    (ap (λ z. race_of (next_from G s' z) (next_from G s' (thread_of s' j))) first ∙ ap (λ z. race_of (next_from G s' (thread_of s i)) (next_from G s' z)) second) ∙ race_still G s s' (thread_of s i) (thread_of s j) (fault i) (fault j) (race i j less) in
+    subst (λ z. AreQuiet (next_of z s') t (length s.threads)) (sym code) quiet
+
+pub quiet_now : (p q : Program) (F : List Function) (s s' : State) (t n : ℕ) (e : Event) → F ≡ functions_of q → q ≡ p → n ≡ length s.threads → Step p s t e s' → NoRace p s → NoFault p s → AreQuiet (next_of F s') t n
+quiet_now p q F s s' t n e code same count one race fault = subst (AreQuiet (next_of F s') t) (sym count) (quiet_after p F s s' t e (code ∙ ap functions_of same) one race fault)
 
 -- ---- the same by the machine's own numbers
 

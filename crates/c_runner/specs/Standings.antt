@@ -1,5 +1,5 @@
 -- What follows from what threads stand before, as functions.
-use Rattle.std.specs.Prelude.{◌≡◌, ℕ, zero, ◌==◌, ◌&&◌, ◌||◌, Bool, true, false, List, [], ◌∷◌, Option, Some, None, is_some, length, nat_le, if◌then◌else◌}
+use Rattle.std.specs.Prelude.{◌≡◌, ℕ, zero, ◌<◌, ◌==◌, ◌&&◌, ◌||◌, Bool, true, false, List, [], ◌∷◌, Option, Some, None, is_some, length, nat_le, nat_lt, if◌then◌else◌}
 use Rattle.pl_resource.specs.declared.value.Cell.{Cell}
 use Rattle.pl_resource.specs.declared.value.Fault.{Fault}
 use Rattle.c_meaning.specs.declared.action.Next.{Next}
@@ -41,6 +41,24 @@ abbrev pub race_among : List Standing → Option (ℕ × ℕ × Cell)
 race_among [] = None
 race_among (a ∷ others) = either_race (race_with a others) (race_among others)
 
+-- the first of these behind a thread that races with it
+abbrev pub race_behind : Standing → List Standing → Option (ℕ × ℕ × Cell)
+race_behind a [] = None
+race_behind a (b ∷ bs) = if nat_lt a.tid b.tid then raced a.tid b.tid (race_of a.next b.next) (race_behind a bs) else race_behind a bs
+
+-- a thread has moved in an event: it was stepped, or made
+abbrev pub has_moved : ℕ → ℕ → Standing → Bool
+has_moved stepped made a = (a.tid == stepped) || nat_le made a.tid
+
+-- the first pair that races, where each thread that hasn't moved is compared with these alone
+abbrev pub race_moved : ℕ → ℕ → List Standing → List Standing → Option (ℕ × ℕ × Cell)
+race_moved stepped made moved [] = None
+race_moved stepped made moved (a ∷ others) = either_race (if has_moved stepped made a then race_with a others else race_behind a moved) (race_moved stepped made moved others)
+
+-- of the threads that haven't moved no two race
+abbrev pub AreQuiet : (ℕ → Next) → ℕ → ℕ → Type 0
+AreQuiet stand stepped made = (s t : ℕ) → s < t → (s ≡ stepped → ⊥) → (t ≡ stepped → ⊥) → t < made → race_of (stand s) (stand t) ≡ None
+
 abbrev pub faulting : ℕ → Next → Option (ℕ × Fault) → Option (ℕ × Fault)
 faulting t (next.Fault f) rest = Some (t, f)
 faulting t _ rest = rest
@@ -61,11 +79,14 @@ abbrev pub end_by_fault : Option (ℕ × Fault) → Option RunEnd → Option Run
 end_by_fault (Some r) rest = Some (end.CFault r.0 r.1)
 end_by_fault None rest = rest
 
--- the end in a state where these threads are enabled
-abbrev pub end_among : List Standing → List ℕ → ℕ → ℕ → Option RunEnd
-end_among standings enabled bound count =
+-- the end in a state with this race, where these threads are enabled
+abbrev pub end_with : Option (ℕ × ℕ × Cell) → List Standing → List ℕ → ℕ → ℕ → Option RunEnd
+end_with race standings enabled bound count =
     if length standings == 0 then Some end.Ended else
-    end_by_race (race_among standings) (end_by_fault (fault_among standings) (
+    end_by_race race (end_by_fault (fault_among standings) (
     if length enabled == 0 then Some end.Deadlock else
     if nat_le 1024 (length standings) && forks_among standings then Some end.ThreadLimit else
     if nat_le bound count then Some end.StepBound else None))
+
+abbrev pub end_among : List Standing → List ℕ → ℕ → ℕ → Option RunEnd
+end_among standings enabled bound count = end_with (race_among standings) standings enabled bound count

@@ -186,7 +186,8 @@ impl<J: Naming> Machine<J> {
         let ended = has_ended(&self.state, tid);
         let made = threads < self.state.threads();
         self.outlook.follow(ended, tid, made, threads);
-        self.outlook.renew(&self.state, bound, self.history.len());
+        self.outlook
+            .renew(&self.state, bound, self.history.len(), tid, threads);
         Ok(())
     }
 

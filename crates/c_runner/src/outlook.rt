@@ -2,11 +2,12 @@
 ghost use Rattle.std.specs.Prelude.{◌≡◌, ◌<◌, ◌≤◌, ◌+◌, ◌∷◌, [], ◌^◌, All, OnOk, OnErr, IfOk, length, vec_len, vec_capacity, map, filter};
 ghost use Rattle.c_meaning.specs.Events.{next_of, is_enabled};
 ghost use Rattle.c_meaning.specs.States.{shown, runs};
-ghost use Rattle.c_runner.specs.Numbers.{first_among, next_among, without, followed};
-ghost use Rattle.c_runner.specs.Standings.{stands, end_among};
+ghost use Rattle.c_runner.specs.Numbers.{Are, first_among, next_among, without, followed};
+ghost use Rattle.c_runner.specs.Standings.{stands, has_moved, AreQuiet, end_among};
+ghost use Rattle.c_runner.specs.Kept.{is_live};
 
 use crate::run_end::RunEnd;
-use crate::standing::{Standing, end_among};
+use crate::standing::{Standing, end_with, has_moved, race_moved};
 use c_meaning::{CState, Next};
 use pl_base::Memory;
 use std::alloc::Global;
@@ -19,12 +20,15 @@ pub(crate) struct Outlook {
     pub(crate) end: Option<RunEnd>,
     /// What the unfinished threads stand before. It is made anew for each state.
     standings: Vec<Standing>,
+    /// Those of them that moved in the last event.
+    moved: Vec<Standing>,
 }
 
 impl Outlook {
     /// That of the state before the first event.
     pub(crate) fn start(alloc: Global, state: &CState, bound: u32) -> Result<Outlook, Memory>
         requires main { length (shown state.now).threads ≡ 1 }
+        requires live { Are (is_live (shown state.now)) 0 (0 ∷ []) }
         ensures unfinished { IfOk result (λ o. o.unfinished.items ≡ 0 ∷ []) }
         ensures enabled { IfOk result (λ o. o.enabled.items ≡ filter (is_enabled (runs state.now) (shown state.now)) o.unfinished.items) }
         ensures end { IfOk result (λ o. o.end ≡ end_among (map (stands (next_of (runs state.now) (shown state.now))) o.unfinished.items) o.enabled.items bound 0) }
@@ -34,8 +38,9 @@ impl Outlook {
             enabled: Vec::with_capacity(alloc, 1)?,
             end: None,
             standings: Vec::with_capacity(alloc, 1)?,
+            moved: Vec::with_capacity(alloc, 1)?,
         };
-        outlook.renew(state, bound, 0);
+        outlook.renew(state, bound, 0, 0, 0);
         Ok(outlook)
     }
 
@@ -45,13 +50,15 @@ impl Outlook {
         ensures enabled { self.new.enabled.items ≡ self.old.enabled.items }
         ensures end { self.new.end ≡ self.old.end }
         ensures more { OnOk result (vec_len self.new.unfinished < vec_capacity self.new.unfinished) }
-        ensures room { OnOk result ((vec_len self.new.unfinished < vec_capacity self.new.enabled) × (vec_len self.new.unfinished < vec_capacity self.new.standings)) }
+        ensures room { OnOk result ((vec_len self.new.unfinished < vec_capacity self.new.enabled) × (vec_len self.new.unfinished < vec_capacity self.new.standings) × (vec_len self.new.unfinished < vec_capacity self.new.moved)) }
     {
         self.standings.clear();
+        self.moved.clear();
         self.unfinished.reserve(1)?;
         let count = self.unfinished.len();
         self.enabled.reserve(count + 1)?;
         self.standings.reserve(count + 1)?;
+        self.moved.reserve(count + 1)?;
         Ok(())
     }
 
@@ -62,6 +69,7 @@ impl Outlook {
         ensures few { vec_len self.new.unfinished ≤ vec_len self.old.unfinished + 1 }
         ensures enabled { vec_capacity self.new.enabled ≡ vec_capacity self.old.enabled }
         ensures standings { vec_capacity self.new.standings ≡ vec_capacity self.old.standings }
+        ensures moved { vec_capacity self.new.moved ≡ vec_capacity self.old.moved }
     {
         if made {
             self.unfinished.push_reserved(thread);
@@ -71,10 +79,19 @@ impl Outlook {
         }
     }
 
-    /// Looks at the state anew, whose unfinished threads are known.
-    pub(crate) fn renew(&mut self, state: &CState, bound: u32, count: usize)
+    /// Looks at the state anew, whose unfinished threads are known, after an event of a thread before which there were `made` threads.
+    pub(crate) fn renew(
+        &mut self,
+        state: &CState,
+        bound: u32,
+        count: usize,
+        stepped: u32,
+        made: u32,
+    )
         requires threads { All (λ t. t < length (shown state.now).threads) self.old.unfinished.items }
-        requires room { (vec_len self.old.unfinished ≤ vec_capacity self.old.enabled) × (vec_len self.old.unfinished ≤ vec_capacity self.old.standings) }
+        requires live { Are (is_live (shown state.now)) 0 self.old.unfinished.items }
+        requires quiet { AreQuiet (next_of (runs state.now) (shown state.now)) stepped made }
+        requires room { (vec_len self.old.unfinished ≤ vec_capacity self.old.enabled) × (vec_len self.old.unfinished ≤ vec_capacity self.old.standings) × (vec_len self.old.unfinished ≤ vec_capacity self.old.moved) }
         ensures unfinished { self.new.unfinished ≡ self.old.unfinished }
         ensures enabled { self.new.enabled.items ≡ filter (is_enabled (runs state.now) (shown state.now)) self.new.unfinished.items }
         ensures end { self.new.end ≡ end_among (map (stands (next_of (runs state.now) (shown state.now))) self.new.unfinished.items) self.new.enabled.items bound count }
@@ -85,12 +102,9 @@ impl Outlook {
             &mut self.standings,
             &mut self.enabled,
         );
-        self.end = end_among(
-            self.standings.as_slice(),
-            self.enabled.as_slice(),
-            bound,
-            count,
-        );
+        keep_moved(stepped, made, &self.standings, &mut self.moved);
+        let race = race_moved(stepped, made, &self.moved, &self.standings);
+        self.end = end_with(race, &self.standings, &self.enabled, bound, count);
     }
 
     /// The first enabled thread of a worker from that number on, else its first one.
@@ -140,6 +154,19 @@ fn look(state: &CState, threads: &[u32], standings: &mut Vec<Standing>, enabled:
             enabled.push_reserved(*t);
         }
         standings.push_reserved(Standing { tid: *t, next });
+    }
+}
+
+// Those that moved in the event.
+fn keep_moved(stepped: u32, made: u32, standings: &[Standing], moved: &mut Vec<Standing>)
+    requires { length standings.now ≤ vec_capacity moved.old }
+    ensures { moved.new.items ≡ filter (has_moved stepped made) standings.now }
+{
+    moved.clear();
+    for a in standings {
+        if has_moved(stepped, made, a) {
+            moved.push_reserved(*a);
+        }
     }
 }
 

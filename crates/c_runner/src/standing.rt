@@ -1,7 +1,7 @@
 // What threads stand before, and what follows from it.
-ghost use Rattle.std.specs.Prelude.{◌≡◌, false};
+ghost use Rattle.std.specs.Prelude.{◌≡◌, false, if◌then◌else◌};
 ghost use Rattle.c_meaning.specs.Steps.{race_of, race_by, conflict, same_cell};
-ghost use Rattle.c_runner.specs.Standings.{touches, is_fork, race_with, race_among, fault_among, forks_among, end_among};
+ghost use Rattle.c_runner.specs.Standings.{touches, is_fork, race_with, race_behind, has_moved, race_moved, fault_among, forks_among, end_with};
 
 use crate::run_end::RunEnd;
 use c_meaning::{Next, Touch};
@@ -104,12 +104,55 @@ fn race_if_touching(a: &Standing, others: &[Standing]) -> Option<(u32, u32, Cell
     }
 }
 
-// The first that races with a later one, and that one.
-fn race_among(standings: &[Standing]) -> Option<(u32, u32, Cell)>
-    ensures { result ≡ race_among standings.now }
+// The first of these behind a thread that races with it.
+fn race_behind(a: &Standing, others: &[Standing]) -> Option<(u32, u32, Cell)>
+    ensures { result ≡ race_behind a.now others.now }
+{
+    for b in others {
+        if a.tid < b.tid {
+            if let Some(cell) = race_of(&a.next, &b.next) {
+                return Some((a.tid, b.tid, cell));
+            }
+        }
+    }
+    None
+}
+
+/// Whether a thread has moved in an event: it was stepped, or made.
+pub(crate) fn has_moved(stepped: u32, made: u32, a: &Standing) -> bool
+    ensures { result ≡ has_moved stepped made a.now }
+{
+    a.tid == stepped || made <= a.tid
+}
+
+// The first thread that races with this one, behind it: of those that follow, or of those that have moved.
+fn race_from(
+    stepped: u32,
+    made: u32,
+    moved: &[Standing],
+    a: &Standing,
+    others: &[Standing],
+) -> Option<(u32, u32, Cell)>
+    ensures { result ≡ (if has_moved stepped made a.now then race_with a.now others.now else race_behind a.now moved.now) }
+{
+    if has_moved(stepped, made, a) {
+        race_if_touching(a, others)
+    } else {
+        race_behind(a, moved)
+    }
+}
+
+/// The first pair that races. A thread that hasn't moved is compared with those that have alone.
+pub(crate) fn race_moved(
+    stepped: u32,
+    made: u32,
+    moved: &[Standing],
+    standings: &[Standing],
+) -> Option<(u32, u32, Cell)>
+    ensures { result ≡ race_moved stepped made moved.now standings.now }
 {
     for i in 0..standings.len() {
-        if let Some(found) = race_if_touching(&standings[i], &standings[i + 1..]) {
+        if let Some(found) = race_from(stepped, made, moved, &standings[i], &standings[i + 1..]) {
             return Some(found);
         }
     }
@@ -138,20 +181,21 @@ fn forks_among(standings: &[Standing]) -> bool
     false
 }
 
-/// The first end that holds, by what the threads that haven't ended stand before, those that are enabled, and how many
-/// events there are.
-pub(crate) fn end_among(
+/// The first end that holds, by the first race, by what the threads that haven't ended stand before, by those that are enabled, and
+/// by how many events there are.
+pub(crate) fn end_with(
+    race: Option<(u32, u32, Cell)>,
     standings: &[Standing],
     enabled: &[u32],
     bound: u32,
     count: usize,
 ) -> Option<RunEnd>
-    ensures { result ≡ end_among standings.now enabled.now bound count }
+    ensures { result ≡ end_with race standings.now enabled.now bound count }
 {
     if standings.is_empty() {
         return Some(RunEnd::Ended);
     }
-    if let Some((s, t, cell)) = race_among(standings) {
+    if let Some((s, t, cell)) = race {
         return Some(RunEnd::Race(s, t, cell));
     }
     if let Some((t, fault)) = fault_among(standings) {

@@ -6,7 +6,7 @@ use Rattle.c_meaning.specs.Steps.{Step}
 use Rattle.c_meaning.specs.Resolve.{functions_of}
 use Rattle.c_runner.specs.Numbers.{Are}
 use Rattle.c_runner.specs.Kept.{IsOpen, is_live}
-use Rattle.c_runner.proofs.Stepping.{still_made, same_step, live_now, live_below, sees_new}
+use Rattle.c_runner.proofs.Stepping.{still_made, same_step, live_now, live_below, sees_new, quiet_now}
 use Rattle.c_runner.proofs.Keeping.{kept_more}
 use Rattle.c_runner.proofs.machine.Machine.step.Goals as goal
 
@@ -21,6 +21,25 @@ renew-requires-clause-threads g c =
     let next = shown c.step-event.new.self in
     let one : Step p s c.args.tid c.step-event.result next = same_step p _ s _ c.args.tid c.step-event.result next c.requires.run.0 c.in_ok-make_room.ensures.same c.step-event.ensures.event in
     live_below next c.follow.new.self.unfinished.items (live_now p (runs c.step-event.new.self) s next c.args.tid c.step-event.result c.has_ended-ended.result c.threads-threads.result c.threads.result c.self.inside.outlook.unfinished.items c.reserve.new.self.unfinished.items c.follow.new.self.unfinished.items one c.has_ended-ended.ensures c.threads-threads.ensures c.threads.ensures c.in_ok-reserve.ensures.unfinished c.follow.ensures.unfinished c.self.invariant.sees.live_are)
+
+pub renew-requires-clause-live : goal.renew-requires-clause-live
+renew-requires-clause-live g c =
+    let p = g.J.Naming.program in
+    let s = shown c.self.inside.state in
+    let next = shown c.step-event.new.self in
+    let one : Step p s c.args.tid c.step-event.result next = same_step p _ s _ c.args.tid c.step-event.result next c.requires.run.0 c.in_ok-make_room.ensures.same c.step-event.ensures.event in
+    live_now p (runs c.step-event.new.self) s next c.args.tid c.step-event.result c.has_ended-ended.result c.threads-threads.result c.threads.result c.self.inside.outlook.unfinished.items c.reserve.new.self.unfinished.items c.follow.new.self.unfinished.items one c.has_ended-ended.ensures c.threads-threads.ensures c.threads.ensures c.in_ok-reserve.ensures.unfinished c.follow.ensures.unfinished c.self.invariant.sees.live_are
+
+pub renew-requires-clause-quiet : goal.renew-requires-clause-quiet
+renew-requires-clause-quiet g c =
+    let p = g.J.Naming.program in
+    let bound = g.J.Naming.bound in
+    let old = c.self.inside in
+    let s = shown old.state in
+    let next = shown c.step-event.new.self in
+    let one : Step p s c.args.tid c.step-event.result next = same_step p _ s _ c.args.tid c.step-event.result next c.requires.run.0 c.in_ok-make_room.ensures.same c.step-event.ensures.event in
+    let is_open : IsOpen p bound s (length old.history.items) = let P : Held × List Event × ℕ → Type 0 = λ m. IsOpen p bound (shown m.0) (length m.1) in subst P (sym c.self.view_is) c.requires.unended in
+    quiet_now p _ (runs c.step-event.new.self) s next c.args.tid c.threads-threads.result c.step-event.result c.step-event.ensures.program c.requires.run.0 c.threads-threads.ensures one is_open.no_race is_open.no_fault
 
 pub invariant_of-self-2 : goal.invariant_of-self-2
 invariant_of-self-2 g c =
