@@ -1,6 +1,5 @@
 -- What workers share may be seen by several threads.
 use denote.RattleType.{RattleType}
-use denote.Param.{param}
 use denote.Param.Send.{IsSend, IsSync, sendable}
 use denote.Param.SendFields.{declared_send, declared_sync}
 use Rattle.std.proofs.Crossing.{crosses}

@@ -1,24 +1,22 @@
 -- The first end that holds, by what the threads that haven't ended stand before.
-use Rattle.std.proofs.Common.{◌≡◌, ℕ, zero, suc, ◌+◌, ◌<◌, ◌≤◌, ◌==◌, ◌&&◌, Bool, true, false, List, [], ◌∷◌, Option, Some, None, map, length, refl, sym, ap, ◌∙◌, subst, arith}
-use Rattle.std.specs.Prelude.{filter, nat_le, count_by, slice_index_or, if◌then◌else◌}
-use Rattle.std.proofs.lemmas.Bool.{leb-true, leb-false, le-leb}
+use Rattle.std.proofs.Common.{◌≡◌, ℕ, suc, ◌≤◌, ◌==◌, ◌&&◌, Bool, true, false, List, [], ◌∷◌, Option, Some, None, map, length, refl, sym, ap, ◌∙◌, subst, arith}
+use Rattle.std.specs.Prelude.{filter, nat_le, if◌then◌else◌}
+use Rattle.std.proofs.lemmas.Bool.{leb-true, leb-false}
 use Rattle.pl_resource.specs.declared.value.Cell.{Cell}
 use Rattle.pl_resource.specs.declared.value.Fault.{Fault}
 use Rattle.c_syntax.specs.Tree.{Program}
-use Rattle.c_meaning.specs.declared.action.Touch.{Touch}
 use Rattle.c_meaning.specs.declared.action.Next.{Next}
 use Rattle.c_meaning.specs.declared.action.Next.TheVariants as next
 use Rattle.c_meaning.specs.Tree.{Function}
 use Rattle.c_meaning.specs.Resolve.{functions_of}
-use Rattle.c_meaning.specs.Events.{State, Thread, Frame, Done, thread_of, next_of, next_from, next_by, is_enabled, ready, event_of_frame, atomic_at}
-use Rattle.c_meaning.specs.Steps.{Race, race_at}
+use Rattle.c_meaning.specs.Events.{State, Thread, thread_of, next_of, next_from, is_enabled, ready}
 use Rattle.c_runner.specs.declared.run_end.RunEnd.{RunEnd}
 use Rattle.c_runner.specs.declared.run_end.RunEnd.TheVariants as end
 use Rattle.c_runner.specs.Numbers.{Are}
-use Rattle.c_runner.specs.Ends.{AllEnded, NoRace, NoFault, LeastFault, NoneEnabled, is_unended, unfinished, IsFull, EndOf, NoEnd}
+use Rattle.c_runner.specs.Ends.{AllEnded, NoRace, NoFault, NoneEnabled, is_unended, unfinished, IsFull, NoEnd}
 use Rattle.c_runner.specs.Standings.{stands, race_among, fault_among, forks_among, end_by_race, end_by_fault, end_among}
 use Rattle.c_runner.specs.Kept.{is_live, Sees, IsOpen, FirstEnd}
-use Rattle.c_runner.proofs.Lists.{are_filter, count_is, unlike, place, Place, before, here, behind}
+use Rattle.c_runner.proofs.Lists.{are_filter, count_is, unlike}
 use Rattle.c_runner.proofs.Races.{Among, among, Faulty, faults, Forking, forks}
 
 pub no_frames : (fs : Thread) → is_unended fs ≡ false → fs ≡ []

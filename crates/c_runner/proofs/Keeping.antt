@@ -1,14 +1,14 @@
 -- Runs with one event more.
-use Rattle.std.proofs.Common.{◌≡◌, ℕ, ℤ, zero, suc, ◌+◌, ◌<◌, ◌≤◌, Bool, true, false, List, [], ◌∷◌, ◌++◌, Option, Some, None, length, refl, sym, ap, ◌∙◌, subst, arith, length-append, append_assoc, append-nil, add-zero}
+use Rattle.std.proofs.Common.{◌≡◌, ℕ, ℤ, suc, ◌+◌, ◌≤◌, List, [], ◌∷◌, ◌++◌, length, refl, sym, ap, ◌∙◌, subst, arith, length-append, append_assoc, append-nil, add-zero}
 use Rattle.c_syntax.specs.Tree.{Program}
 use Rattle.c_meaning.specs.declared.action.Event.{Event}
 use Rattle.c_meaning.specs.Resolve.{functions_of}
 use Rattle.c_meaning.specs.Events.{State, is_enabled}
-use Rattle.c_meaning.specs.Steps.{Step, Runs, Replay, start_of}
-use Rattle.c_runner.specs.Numbers.{IsNext, Are}
+use Rattle.c_meaning.specs.Steps.{Step, Runs, start_of}
+use Rattle.c_runner.specs.Numbers.{IsNext}
 use Rattle.c_runner.specs.Ends.{NoEnd}
 use Rattle.c_runner.specs.Runs.{GoesOn, Ruled}
-use Rattle.c_runner.specs.Kept.{IsKept, IsOpen, GoesByRule, is_live}
+use Rattle.c_runner.specs.Kept.{IsKept, IsOpen, GoesByRule}
 use Rattle.c_runner.proofs.Ending.{no_end}
 
 -- a step of thread t is one of the event's thread

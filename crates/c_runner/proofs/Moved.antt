@@ -1,8 +1,7 @@
 -- A race after an event is one with a thread that has moved.
-use Rattle.std.proofs.Common.{◌≡◌, ℕ, zero, suc, ◌<◌, ◌≤◌, ◌==◌, ◌||◌, Bool, true, false, List, [], ◌∷◌, ◌++◌, Option, Some, None, cond, map, refl, sym, ap, ◌∙◌, subst, arith, append_assoc}
+use Rattle.std.proofs.Common.{◌≡◌, ℕ, suc, ◌<◌, ◌≤◌, ◌==◌, ◌||◌, Bool, true, false, List, [], ◌∷◌, ◌++◌, None, cond, map, refl, sym, ap, ◌∙◌, arith, append_assoc}
 use Rattle.std.specs.Prelude.{filter, nat_le, nat_lt, if◌then◌else◌}
 use Rattle.std.proofs.lemmas.Bool.{eqb-false, leb-false, lt-ltb, ltb-true}
-use Rattle.pl_resource.specs.declared.value.Cell.{Cell}
 use Rattle.c_meaning.specs.declared.action.Next.{Next}
 use Rattle.c_meaning.specs.Steps.{race_of}
 use Rattle.c_runner.specs.declared.standing.Standing.{Standing}

@@ -1,6 +1,6 @@
 -- What an event changes of the threads.
-use Rattle.std.proofs.Common.{◌≡◌, ℕ, ℤ, zero, suc, ◌+◌, ◌<◌, ◌≤◌, ◌==◌, ◌&&◌, ◌||◌, Bool, true, false, List, [], ◌∷◌, ◌++◌, Option, Some, None, Result, Ok, Err, map, not, length, refl, sym, ap, ◌∙◌, subst, arith, length-append, append_assoc, append-nil, add-zero}
-use Rattle.std.specs.Prelude.{filter, nat_le, nat_lt, slice_index_or, slice_set, if◌then◌else◌, All}
+use Rattle.std.proofs.Common.{◌≡◌, ℕ, zero, suc, ◌+◌, ◌<◌, ◌≤◌, ◌==◌, ◌&&◌, ◌||◌, Bool, true, false, List, [], ◌∷◌, ◌++◌, Option, Some, None, Result, Ok, Err, map, not, length, refl, sym, ap, ◌∙◌, subst, arith, length-append}
+use Rattle.std.specs.Prelude.{filter, nat_lt, slice_index_or, slice_set, All}
 use Rattle.std.proofs.lemmas.Bool.{ltb-true, ltb-false, eq-eqb}
 use Rattle.std.proofs.lemmas.List.Elements.{All-nil, All-cons}
 use Rattle.pl_resource.specs.Faults.{chain}
@@ -8,13 +8,11 @@ use Rattle.pl_resource.specs.declared.value.Fault.{Fault}
 use Rattle.c_syntax.specs.Tree.{Program}
 use Rattle.c_meaning.specs.declared.action.Action.{Action}
 use Rattle.c_meaning.specs.declared.action.Event.{Event}
-use Rattle.c_meaning.specs.declared.action.Next.{Next}
-use Rattle.c_meaning.specs.declared.action.Next.TheVariants as next
 use Rattle.c_meaning.specs.Tree.{Function}
 use Rattle.c_meaning.specs.Resolve.{functions_of}
 use Rattle.c_meaning.specs.Effects.{Turn, Past, Calls, Forks, Returns}
-use Rattle.c_meaning.specs.Events.{State, Thread, Frame, Done, thread_of, next_of, next_from, next_by, is_enabled, ready, event_of, event_from, event_of_frame, state_after, frames_after, frame_behind, forked, called, begun}
-use Rattle.c_meaning.specs.Steps.{Step, Runs, Replay, start_of, race_of}
+use Rattle.c_meaning.specs.Events.{State, Thread, Frame, Done, thread_of, next_of, next_from, next_by, is_enabled, ready, event_from, event_of_frame, state_after, frames_after, frame_behind, forked, called}
+use Rattle.c_meaning.specs.Steps.{Step, race_of}
 use Rattle.c_runner.specs.Numbers.{Are, followed}
 use Rattle.c_runner.specs.Ends.{is_unended, NoRace, NoFault}
 use Rattle.c_runner.specs.Kept.{is_live, Sees}

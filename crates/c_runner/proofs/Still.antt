@@ -1,24 +1,21 @@
 -- What a thread stands before while others do events.
-use Rattle.std.proofs.Common.{◌≡◌, ℕ, zero, suc, ◌+◌, ◌<◌, ◌≤◌, Bool, true, false, List, [], ◌∷◌, ◌++◌, Option, Some, None, Result, Ok, Err, refl, sym, ap, ◌∙◌, subst, arith, length}
+use Rattle.std.proofs.Common.{◌≡◌, ℕ, Bool, true, false, List, [], ◌∷◌, None, Result, Ok, Err, refl, sym, ap, ◌∙◌, subst, length}
 use Rattle.pl_resource.specs.Faults.{chain}
 use Rattle.pl_resource.specs.Heap.{load_of, store_of, cas_of, free_of}
 use Rattle.pl_resource.specs.LockTable.{set_of, end_of}
 use Rattle.pl_resource.specs.declared.value.Fault.{Fault}
 use Rattle.pl_resource.specs.declared.value.Value.{Value}
 use Rattle.pl_resource.specs.declared.value.Value.TheVariants as value
-use Rattle.c_syntax.specs.Tree.{Program}
-use Rattle.c_meaning.specs.declared.action.Event.{Event}
 use Rattle.c_meaning.specs.declared.action.Touch.{Touch}
 use Rattle.c_meaning.specs.declared.action.Next.{Next}
 use Rattle.c_meaning.specs.declared.action.Next.TheVariants as next
 use Rattle.c_meaning.specs.Tree.{Stmts, Let, If, While, Check, Do, end, more, Function, Basic, Load, Store, Cas, Make, Free, NewLock, Acquire, Release, Read, Print, Call, Fork, Join, Return}
 use Rattle.c_meaning.specs.Values.{Env, eval, local_of}
-use Rattle.c_meaning.specs.Effects.{World, Own, Effect, offset_of, base_of, cell_at, eval_number, count_of, lock_of_local, effect_of}
-use Rattle.c_meaning.specs.Touches.{untouched, is_atomic, touched}
-use Rattle.c_meaning.specs.Touching.{told, sound_all, freeing, joining, some_fields, touching}
-use Rattle.c_meaning.specs.Events.{State, Thread, Frame, Done, event_in, next_by, next_from, next_of, atomic_at, faulted, event_of_frame, thread_of, own_of, called, blank}
-use Rattle.c_meaning.specs.Resolve.{functions_of}
-use Rattle.c_meaning.specs.Steps.{Step, race_of, race_at}
+use Rattle.c_meaning.specs.Effects.{World, Own, Effect, offset_of, base_of, cell_at, eval_number, lock_of_local, effect_of}
+use Rattle.c_meaning.specs.Touches.{is_atomic, touched}
+use Rattle.c_meaning.specs.Touching.{told, freeing, touching}
+use Rattle.c_meaning.specs.Events.{State, Thread, Done, event_in, next_by, next_from, atomic_at, event_of_frame, own_of, called, blank}
+use Rattle.c_meaning.specs.Steps.{race_of}
 use Rattle.c_meaning.proofs.Touched.{touching_is, next_told}
 
 -- two looks that are both good see the same

@@ -1,5 +1,5 @@
 -- How a run ends.
-use Rattle.std.specs.Prelude.{◌≡◌, ℕ, ◌<◌, ◌≤◌, Bool, true, false, List, [], ◌∷◌, None, count_by}
+use Rattle.std.specs.Prelude.{◌≡◌, ℕ, ◌<◌, ◌≤◌, Bool, true, false, [], ◌∷◌, None, count_by}
 use Rattle.pl_resource.specs.declared.value.Fault.{Fault}
 use Rattle.c_syntax.specs.Tree.{Program}
 use Rattle.c_meaning.specs.declared.action.Touch.{Touch}

@@ -2,7 +2,6 @@
 use Rattle.std.specs.Prelude.{◌≡◌, ℕ, ℤ, suc, ◌<◌, ◌≤◌, ◌%◌, ◌⊎◌, Bool, List, [], ◌∷◌, ◌++◌, Option, Some, None, length, map, filter}
 use Rattle.c_syntax.specs.Tree.{Program}
 use Rattle.c_meaning.specs.declared.action.Event.{Event}
-use Rattle.c_meaning.specs.Resolve.{functions_of}
 use Rattle.c_meaning.specs.Tree.{Function}
 use Rattle.c_meaning.specs.Events.{State, thread_of, next_of, is_enabled}
 use Rattle.c_meaning.specs.Steps.{Replay, start_of}

@@ -1,5 +1,5 @@
 -- What a run answers.
-use Rattle.std.specs.Prelude.{◌≡◌, ℕ, ℤ, ◌+◌, ◌%◌, ◌⊎◌, List, [], ◌∷◌, ◌++◌, length}
+use Rattle.std.specs.Prelude.{◌≡◌, ℕ, ℤ, ◌+◌, List, [], ◌∷◌, length}
 use Rattle.c_syntax.specs.Tree.{Program}
 use Rattle.c_meaning.specs.declared.action.Event.{Event}
 use Rattle.c_meaning.specs.Resolve.{functions_of}

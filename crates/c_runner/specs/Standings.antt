@@ -1,5 +1,5 @@
 -- What follows from what threads stand before, as functions.
-use Rattle.std.specs.Prelude.{◌≡◌, ℕ, zero, ◌<◌, ◌==◌, ◌&&◌, ◌||◌, Bool, true, false, List, [], ◌∷◌, Option, Some, None, is_some, length, nat_le, nat_lt, if◌then◌else◌}
+use Rattle.std.specs.Prelude.{◌≡◌, ℕ, ◌<◌, ◌==◌, ◌&&◌, ◌||◌, Bool, true, false, List, [], ◌∷◌, Option, Some, None, is_some, length, nat_le, nat_lt, if◌then◌else◌}
 use Rattle.pl_resource.specs.declared.value.Cell.{Cell}
 use Rattle.pl_resource.specs.declared.value.Fault.{Fault}
 use Rattle.c_meaning.specs.declared.action.Next.{Next}

@@ -1,4 +1,4 @@
-use Rattle.std.proofs.Common.{◌≡◌, ◌++◌, ◌≤◌, ◌+◌, drop, map, length}
+use Rattle.std.proofs.Common.{◌≡◌, ◌++◌, ◌≤◌, drop, map}
 use Rattle.std.specs.Prelude.{filter, vec_len, vec_capacity}
 use Rattle.c_meaning.specs.Events.{next_of, is_enabled}
 use Rattle.c_meaning.specs.States.{shown, runs}

@@ -1,4 +1,4 @@
-use Rattle.std.proofs.Common.{◌≡◌, ℕ, List, length, subst, sym, ap, ◌∙◌}
+use Rattle.std.proofs.Common.{List, length, subst, sym}
 use Rattle.c_meaning.specs.declared.action.Event.{Event}
 use Rattle.c_meaning.specs.States.{shown}
 use Rattle.c_runner.specs.Ends.{EndOf}

@@ -1,4 +1,4 @@
-use Rattle.std.proofs.Common.{◌≡◌, ℕ, List, length, subst, false}
+use Rattle.std.proofs.Common.{◌≡◌, ℕ, List, subst, false}
 use Rattle.std.specs.Prelude.{IfSome, IfNone}
 use Rattle.c_meaning.specs.declared.action.Event.{Event}
 use Rattle.c_meaning.specs.States.{Held, shown}

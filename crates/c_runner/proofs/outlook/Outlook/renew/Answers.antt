@@ -1,9 +1,7 @@
-use Rattle.std.proofs.Common.{◌≡◌, ℕ, List, Option, map, sym, ap, ◌∙◌}
+use Rattle.std.proofs.Common.{◌≡◌, map, ap, ◌∙◌}
 use Rattle.std.specs.Prelude.{filter}
-use Rattle.pl_resource.specs.declared.value.Cell.{Cell}
 use Rattle.c_meaning.specs.Events.{next_of}
 use Rattle.c_meaning.specs.States.{shown, runs}
-use Rattle.c_runner.specs.declared.standing.Standing.{Standing}
 use Rattle.c_runner.specs.Kept.{is_live}
 use Rattle.c_runner.specs.Standings.{stands, has_moved, race_moved, race_among, end_with}
 use Rattle.c_runner.proofs.Moved.{moved_is}
