@@ -1,0 +1,5 @@
+pub mod Numbers
+pub mod Ends
+pub mod Runs
+pub mod Standings
+pub mod Kept
