@@ -1,0 +1,21 @@
+-- The first line of a text.
+use Rattle.std.proofs.Common.{◌≡◌, ℕ, suc, ◌+◌, ◌<◌, ◌==◌, Bool, true, false, List, [], ◌∷◌, ◌++◌, length, take, drop, refl, sym, ap, ◌∙◌, arith, append_assoc, append-nil}
+use Rattle.std.specs.Prelude.{not, if◌then◌else◌}
+use Rattle.std.specs.List.{prefix_len}
+use Rattle.pl_top.specs.Input.{lines_behind, lines_of, last_line, is_inside}
+
+-- there is a line, of which these bytes are the beginning
+last_is : (line : List ℕ) → 0 < length line → last_line line ≡ (line ++ []) ∷ []
+last_is [] h = absurd (omega (arith, h))
+last_is (b ∷ bs) h = ap (λ (l : List ℕ). l ∷ []) (sym (append-nil (b ∷ bs)))
+
+pub first_behind : (bytes line : List ℕ) → 0 < length line + length bytes →
+    lines_behind line bytes ≡ (line ++ take (prefix_len is_inside bytes) bytes) ∷ lines_of (drop 1 (drop (prefix_len is_inside bytes) bytes))
+first_behind [] line h = last_is line (omega (arith, h))
+first_behind (b ∷ bs) line h = go (b == 10) refl
+  where
+    longer : 0 < length (line ++ b ∷ []) + length bs
+    longer = omega (arith, Rattle.std.proofs.Common.length-append line (b ∷ []))
+    go : (t : Bool) → (b == 10) ≡ t → lines_behind line (b ∷ bs) ≡ (line ++ take (prefix_len is_inside (b ∷ bs)) (b ∷ bs)) ∷ lines_of (drop 1 (drop (prefix_len is_inside (b ∷ bs)) (b ∷ bs)))
+    go true e = rw e (ap (λ (l : List ℕ). l ∷ lines_of bs) (sym (append-nil line)))
+    go false e = rw e refl
