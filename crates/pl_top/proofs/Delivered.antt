@@ -8,8 +8,10 @@ use Rattle.pl_base.specs.Outside.{Files, Puts, KeepsOthers}
 use Rattle.pl_words.specs.declared.command.WordError.{WordError}
 use Rattle.pl_words.specs.declared.command.WordError.TheVariants as e
 use Rattle.pl_words.specs.declared.command.Command.{Command}
+use Rattle.pl_words.specs.declared.command.UsageKind.{UsageKind}
+use Rattle.pl_top.specs.Lines.{usage_line}
 use Rattle.pl_top.specs.Telling.{Put, AllPut, AppendsPart}
-use Rattle.pl_top.specs.Judging.{Outcome}
+use Rattle.pl_top.specs.Judging.{Outcome, says}
 use Rattle.pl_top.specs.Calls.{Answered, Begins, none, DidPart, put_whole, put_failed, wrote, MaySay, PartDone}
 
 -- one list of files after another
@@ -46,3 +48,7 @@ pub part_of : (P Q : List Put → Type 0) (I J : Outcome → Type 0) (files file
 part_of P Q I J files files' out out' f g (put_whole puts can all quiet) = put_whole puts (f puts can) all quiet
 part_of P Q I J files files' out out' f g (put_failed puts last can between all others quiet) = put_failed puts last (f _ can) between all others quiet
 part_of P Q I J files files' out out' f g (wrote o is all part) = wrote o (g o is) all part
+
+-- words that are refused
+pub refused_part : (kind : UsageKind) (place : ℕ) (files files' : Option Files) (out out' : Option (List ℕ)) (text : List ℕ) → text ≡ usage_line kind place → files' ≡ files → AppendsPart out out' text → DidPart (λ puts. puts ≡ []) (λ o. o ≡ says 2 (usage_line kind place)) files files' out out'
+refused_part kind place files files' out out' text is same w = wrote (says 2 (usage_line kind place)) refl same (subst (AppendsPart out out') is w)

@@ -57,3 +57,7 @@ file_undone bytes p file only a h =
 -- bytes that are no file
 pub none_built : (bytes : List ℕ) → ((p : Program) → IsFile bytes p → ⊥) → (a : Answer) → said a ≡ says 3 not_built → Refuses bytes (said a)
 none_built bytes none a h = subst (Refuses bytes) (sym h) (is_not_built (record { none = none }))
+
+-- what is said of a duty that is left undone
+pub said_undone : (main : FunDecl) (place : Pos) (duty : Duty) → Undone main place duty → (text : List ℕ) → text ≡ duty_line place duty → (p : Pos) × (d : Duty) × Undone main p d × (says 1 text ≡ says 1 (duty_line p d))
+said_undone main place duty undone text h = (place, duty, undone, ap (says 1) h)

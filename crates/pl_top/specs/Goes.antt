@@ -10,7 +10,7 @@ use Rattle.c_syntax.specs.Text.{program_text}
 use Rattle.c_syntax.specs.Fragment.{IsFragment}
 use Rattle.pl_syntax.specs.Tree as t
 use Rattle.pl_erase.specs.Emitted.{emitted}
-use Rattle.pl_top.specs.Telling.{Given, whole, Put, AllPut}
+use Rattle.pl_top.specs.Telling.{Given, whole, long, Put, AllPut}
 use Rattle.pl_top.specs.Input.{input_of}
 use Rattle.pl_top.specs.Lines.{input_line}
 use Rattle.pl_top.specs.Judging.{Outcome, says, IsEmitted, put_text, put_history, Ran, Ends, ran, Judges, JudgesRun}
@@ -38,13 +38,17 @@ pub record IsEmission (p : t.Program) (e : Emitted) : Type 0 where
 abbrev pub PlansEmit : Given → ToEmit → Type 0
 PlansEmit given (emit.Refused answer) = (name : List ℕ) → Judges given (c.Emit [] name) (whole []) (said answer)
 PlansEmit (whole bytes) (emit.Emits e) = IsProgramOf bytes e
-PlansEmit _ (emit.Emits e) = ⊥
+PlansEmit long (emit.Emits e) = ⊥
 
--- a file gave a program and the input its numbers, or they are refused
+-- a file gave a program, and an input its numbers
+abbrev pub RunsWith : List ℕ → Given → Emitted → List ℤ → Type 0
+RunsWith bytes (whole input) e numbers = IsProgramOf bytes e × (input_of input ≡ Ok numbers)
+RunsWith bytes long e numbers = ⊥
+
+-- they gave these, or are refused
 abbrev pub PlansRun : List ℕ → Given → ToRun → Type 0
 PlansRun bytes input (go.Refused answer) = (name : List ℕ) (opts : RunOpts) → JudgesRun input bytes name opts (said answer)
-PlansRun bytes (whole input) (go.Runs e numbers) = IsProgramOf bytes e × (input_of input ≡ Ok numbers.items)
-PlansRun bytes _ (go.Runs e numbers) = ⊥
+PlansRun bytes input (go.Runs e numbers) = RunsWith bytes input e numbers.items
 
 -- the same of a program that is accepted
 abbrev pub PlansProgram : t.Program → List ℕ → ToRun → Type 0

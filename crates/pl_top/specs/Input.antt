@@ -1,5 +1,5 @@
 -- The text of an input: a number on each line.
-use Rattle.std.specs.Prelude.{ℕ, ℤ, pos, ◌+◌, ◌^◌, ◌==◌, ◌&&◌, nat_le, nat_lt, not, Bool, Option, Some, None, List, [], ◌∷◌, ◌++◌, Result, Ok, Err, length, if◌then◌else◌}
+use Rattle.std.specs.Prelude.{◌≡◌, ℕ, ℤ, pos, ◌+◌, ◌^◌, ◌==◌, ◌&&◌, nat_le, nat_lt, not, Bool, Option, Some, None, List, [], ◌∷◌, ◌++◌, Result, Ok, Err, length, if◌then◌else◌}
 use Rattle.std.specs.List.{list_all}
 use Rattle.pl_base.specs.Tokens.{is_digit, digits_onto}
 use Rattle.pl_syntax.specs.Grammar.{negative}

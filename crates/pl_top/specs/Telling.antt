@@ -1,6 +1,7 @@
 -- What a call of the program took, put and wrote, and the causes of its statuses.
 use Rattle.std.specs.Prelude.{◌≡◌, ℕ, ◌<◌, ◌≤◌, List, [], ◌∷◌, length, take, Bool, true, false, Ok, Err, Option, Result}
 use Rattle.std.specs.Io.KnownBytes.{Appends, Consumes, IsAtEnd}
+use Rattle.pl_base.specs.declared.pos.Memory.{Memory}
 use Rattle.pl_base.specs.Outside.{Files, HasFile, HasLonger, Puts, Rose}
 use Rattle.pl_top.specs.declared.fetch.Fetched.{Fetched}
 use Rattle.pl_top.specs.declared.fetch.Fetched.TheVariants.{Bytes, TooLong}
@@ -57,6 +58,13 @@ is_out (Ok x) = false
 is_out (Err fault.In) = false
 is_out (Err fault.Out) = true
 is_out (Err fault.Memory) = false
+
+-- the status of what stopped a command; want of memory has none yet
+abbrev pub told_of : Result ℕ Fault → Result ℕ Memory
+told_of (Ok status) = Ok status
+told_of (Err fault.In) = Ok 4
+told_of (Err fault.Out) = Ok 5
+told_of (Err fault.Memory) = Err (record {})
 
 -- status 4 comes only where the host's faults of input rose, and wherever that count grew; 5 likewise for output
 pub record HasCauses (status in_before in_now out_before out_now : ℕ) : Type 0 where

@@ -5,7 +5,6 @@ ghost use Rattle.pl_base.specs.Tokens as spelling;
 ghost use Rattle.pl_top.specs.Input as text;
 
 use crate::lexing::{is_digit, value_of};
-use pl_base::Memory;
 use std::alloc::Global;
 
 /// Why an input has no numbers.
@@ -14,17 +13,6 @@ pub enum InputError {
     /// The first line that is refused, from 1.
     Line(u32),
     Memory,
-}
-
-impl From<Memory> for InputError {
-    ghost use Rattle.std.specs.Prelude.{◌≡◌};
-    ghost use Rattle.pl_top.specs.declared.input.InputError.TheVariants.{Memory};
-
-    ghost from_gives = { λ _ e. e ≡ Memory };
-
-    fn from(_: Memory) -> InputError {
-        InputError::Memory
-    }
 }
 
 fn all_digits(bytes: &[u8]) -> bool
@@ -125,7 +113,9 @@ pub fn read_numbers(alloc: Global, bytes: &[u8]) -> Result<Vec<i64>, InputError>
         let Some(number) = number_of(first) else {
             return Err(InputError::Line(line));
         };
-        numbers.push(number)?;
+        if numbers.push(number).is_err() {
+            return Err(InputError::Memory);
+        }
         rest = behind;
         line += 1;
     }

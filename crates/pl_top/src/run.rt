@@ -1,10 +1,10 @@
 // Runs of a C program.
-ghost use Rattle.std.specs.Prelude.{◌≡◌, ◌≤◌, ◌<◌, ◌^◌, ◌++◌, [], IfOk, OnOk, length, flat_map};
+ghost use Rattle.std.specs.Prelude.{◌≡◌, ◌≤◌, ◌<◌, ◌-◌, ◌^◌, ◌++◌, [], IfOk, OnOk, length, flat_map};
 ghost use Rattle.c_syntax.specs.Plain.{plain_program};
 ghost use Rattle.pl_words.specs.Ranges as range;
 ghost use Rattle.pl_top.specs.Lines.{outputs_text, number_line};
 ghost use Rattle.pl_top.specs.Judging.{Ends};
-ghost use Rattle.pl_top.specs.Runs.{IsSafe, IsSafeEnd, EndsWith, IsDone, printed, printed_line};
+ghost use Rattle.pl_top.specs.Runs.{IsSafe, IsSafeEnd, IsDone, printed_line};
 
 use crate::lines;
 use c_meaning::{Action, Event, History};
@@ -77,8 +77,9 @@ pub fn run<R: Threads + Wait + Sync, G: Gate>(
     ensures few { IfOk result (λ d. length d.history.events < 2 ^ 32 - 1) }
 {
     let Ran { end, history } = run_threads(rt, alloc, program, numbers, opts.steps, opts.workers, gate)?;
-    let mut text = outputs(alloc, history.events.as_slice())?;
-    let (status, line) = ending(alloc, end, history.events.len() as u32)?;
+    let events = history.events.as_slice();
+    let mut text = outputs(alloc, events)?;
+    let (status, line) = ending(alloc, end, events.len() as u32)?;
     text.extend_from_slice(line.as_slice())?;
     Ok(Done {
         status,

@@ -4,7 +4,7 @@ ghost use Rattle.std.specs.Io.KnownBytes.{Appends};
 ghost use Rattle.pl_base.specs.Outside.{Counts};
 ghost use Rattle.pl_words.specs.Ranges.{IsInRange};
 ghost use Rattle.pl_words.specs.declared.command.WordError.TheVariants as e;
-ghost use Rattle.pl_top.specs.Telling.{HasCauses, is_in, is_out};
+ghost use Rattle.pl_top.specs.Telling.{HasCauses, is_in, is_out, told_of};
 ghost use Rattle.pl_top.specs.Words.{asked_of, Returns, Runs, IsBuilt};
 ghost use Rattle.pl_top.specs.Lines.{usage_line};
 ghost use Rattle.pl_top.specs.Calls.{Answered, PartDone, Promised, IsExactFor};
@@ -18,6 +18,18 @@ use pl_words::{Command, UsageKind, WordError};
 use std::alloc::Global;
 use std::sync::Wait;
 use std::thread::Threads;
+
+// The status of what stopped a command.
+fn told(answer: Result<u8, Fault>) -> Result<u8, Memory>
+    ensures { result ≡ told_of answer }
+{
+    match answer {
+        Ok(status) => Ok(status),
+        Err(Fault::In) => Ok(4),
+        Err(Fault::Out) => Ok(5),
+        Err(Fault::Memory) => Err(Memory),
+    }
+}
 
 // Answers a command, or says what stopped it.
 fn check_answer<H: Host>(alloc: Global, command: &Command, host: &mut H) -> Result<u8, Fault>
@@ -56,12 +68,7 @@ pub fn check_command<R: Threads + Sync, H: Host, G: Gate>(
     ensures causes { IfOk result (λ s. HasCauses s (H.in_faults host.old) (H.in_faults host.new) (H.out_faults host.old) (H.out_faults host.new)) }
     ensures memory { OnErr result ((H.in_faults host.new ≡ H.in_faults host.old) × (H.out_faults host.new ≡ H.out_faults host.old)) }
 {
-    match check_answer(alloc, command, host) {
-        Ok(status) => Ok(status),
-        Err(Fault::In) => Ok(4),
-        Err(Fault::Out) => Ok(5),
-        Err(Fault::Memory) => Err(Memory),
-    }
+    told(check_answer(alloc, command, host))
 }
 
 // The same of a command that runs a program.
@@ -105,12 +112,7 @@ pub fn run_command<R: Threads + Wait + Sync, H: Host, G: Gate>(
     ensures causes { IfOk result (λ s. HasCauses s (H.in_faults host.old) (H.in_faults host.new) (H.out_faults host.old) (H.out_faults host.new)) }
     ensures memory { OnErr result ((H.in_faults host.new ≡ H.in_faults host.old) × (H.out_faults host.new ≡ H.out_faults host.old)) }
 {
-    match run_answer(rt, alloc, command, host, gate) {
-        Ok(status) => Ok(status),
-        Err(Fault::In) => Ok(4),
-        Err(Fault::Out) => Ok(5),
-        Err(Fault::Memory) => Err(Memory),
-    }
+    told(run_answer(rt, alloc, command, host, gate))
 }
 
 // Says that the words are refused.

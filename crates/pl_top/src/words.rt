@@ -1,5 +1,5 @@
 // The words of the command line.
-ghost use Rattle.std.specs.Prelude.{map, string_bytes, IfOk};
+ghost use Rattle.std.specs.Prelude.{◌≡◌, map, string_bytes, IfOk};
 ghost use Rattle.pl_words.specs.Words.{Tells};
 ghost use Rattle.pl_words.specs.Ranges.{IsInRange};
 ghost use Rattle.pl_top.specs.Words as rule;
