@@ -1,7 +1,6 @@
 -- The C program of a typed program is one of the fragment.
-use Rattle.std.proofs.Common.{◌≡◌, ℕ, suc, ◌+◌, ◌≤◌, ◌==◌, ◌&&◌, max, pos, negsuc, Bool, true, false, if◌then◌else◌, Option, Some, None, List, [], ◌∷◌, length, refl, sym, ap, ◌∙◌, subst, codes, arith, rules}
-use Rattle.std.specs.Prelude.{FitsSigned, ⊤, option_and_then}
-use Rattle.std.specs.Int.{w64}
+use Rattle.std.proofs.Common.{◌≡◌, ℕ, suc, ◌==◌, ◌&&◌, max, pos, negsuc, Bool, true, false, if◌then◌else◌, Option, Some, None, List, [], ◌∷◌, refl, sym, ap, ◌∙◌, subst, codes, arith, rules}
+use Rattle.std.specs.Prelude.{option_and_then}
 use Rattle.std.specs.List.{IsDistinct}
 use Rattle.std.specs.Str.{bytes_eq}
 use Rattle.c_syntax.specs.declared.kind.CType.{CType}
@@ -9,13 +8,13 @@ use Rattle.c_syntax.specs.declared.kind.CType.TheVariants as kind
 use Rattle.c_syntax.specs.declared.program.CParam.{CParam}
 use Rattle.c_syntax.specs.Tree as c
 use Rattle.c_syntax.specs.Plain.{chain}
-use Rattle.c_syntax.specs.Forms.{IsExprForm, IsStmtForm, AreStmtForms, stmt_depth, stmts_depth, expr_depth, deepest, IsFunForm, IsProgramForm}
+use Rattle.c_syntax.specs.Forms.{IsExprForm, AreStmtForms, stmts_depth, IsFunForm}
 use Rattle.c_syntax.specs.Rules as r
 use Rattle.c_syntax.specs.Rules.{typed, is_same, type_of, HasType, BodyFits, FunFits, KeepsRules, element, function_of, HasMain}
 use Rattle.c_syntax.specs.Fragment.{IsFragment}
 use Rattle.pl_syntax.specs.declared.expr.Sort.{Sort}
 use Rattle.pl_syntax.specs.declared.expr.Sort.TheVariants.{I64, RefI64}
-use Rattle.pl_syntax.specs.Tree.{Name, Expr, Int, Var, Whole, At, Field, Stmt, Load, Alloc, Free, Print, FunDecl, Fun, Program, list_of}
+use Rattle.pl_syntax.specs.Tree.{Name, Expr, Int, Var, Whole, At, Field, Stmt, Load, Alloc, Free, Print, FunDecl, Program, list_of}
 use Rattle.pl_syntax.specs.Sorts.{Scope, sort_of, IsInteger, AreSorted, IsMain, IsTyped}
 use Rattle.pl_erase.specs.Emitted.{Numbers, no_numbers, number, local, local_of, emitted_expr, emitted_all, emitted_fun, emitted, emitted_decls}
 
@@ -87,14 +86,18 @@ has_type scope numbers bound _ b h = absurd h
 
 pub fits : (p : c.Program) (scope : Scope) (n : ℕ) (numbers : Numbers) (list : List Stmt) (s : r.Scope) → s.next ≡ n → Bound scope numbers s.bound → AreSorted scope list → BodyFits p kind.Void s (chain (emitted_all n numbers list))
 fits p scope n numbers [] s e b h = refl
-fits p scope n numbers (Load place x (Whole base) is_ghost ∷ rest) s e b h =
-    ((sym e, tt), ap (option_and_then element) (b.at base RefI64 h.1),
-    fits p ((x, I64) ∷ scope) (suc n) (number x n numbers) rest (r.after s (c.Load kind.I64 (local x n) (c.Whole (local_of numbers base)))) (omega arith) (bound_more scope numbers s.bound x n I64 b) h.2)
+fits p scope n numbers (Load place x (Whole base) is_ghost ∷ rest) s e b h = (
+  (sym e, tt),
+  ap (option_and_then element) (b.at base RefI64 h.1),
+  fits p ((x, I64) ∷ scope) (suc n) (number x n numbers) rest (r.after s (c.Load kind.I64 (local x n) (c.Whole (local_of numbers base)))) (omega arith) (bound_more scope numbers s.bound x n I64 b) h.2,
+)
 fits p scope n numbers (Load place x (At base index) is_ghost ∷ rest) s e b h = absurd h.1
 fits p scope n numbers (Load place x (Field base field) is_ghost ∷ rest) s e b h = absurd h.1
-fits p scope n numbers (Alloc place x v ∷ rest) s e b h =
-    ((sym e, tt), (kind.I64, refl, has_type scope numbers s.bound v b h.0),
-    fits p ((x, RefI64) ∷ scope) (suc n) (number x n numbers) rest (r.after s (c.New kind.PtrI64 (local x n) (emitted_expr numbers v))) (omega arith) (bound_more scope numbers s.bound x n RefI64 b) h.1)
+fits p scope n numbers (Alloc place x v ∷ rest) s e b h = (
+  (sym e, tt),
+  (kind.I64, refl, has_type scope numbers s.bound v b h.0),
+  fits p ((x, RefI64) ∷ scope) (suc n) (number x n numbers) rest (r.after s (c.New kind.PtrI64 (local x n) (emitted_expr numbers v))) (omega arith) (bound_more scope numbers s.bound x n RefI64 b) h.1,
+)
 fits p scope n numbers (Free place x ∷ rest) s e b h =
     (tt, (kind.PtrI64, b.at x RefI64 h.0, tt), fits p scope n numbers rest (r.after s (c.Free (local_of numbers x))) (omega arith) b h.1)
 fits p scope n numbers (Print place v ∷ rest) s e b h =

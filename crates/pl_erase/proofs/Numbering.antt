@@ -1,10 +1,10 @@
 -- The numbers of binders in the code.
-use Rattle.std.proofs.Common.{◌≡◌, ℕ, Bool, true, false, cond, Option, Some, List, refl, ap, ◌∙◌}
+use Rattle.std.proofs.Common.{◌≡◌, ℕ, Bool, true, false, cond, Option, Some, refl, ap, ◌∙◌}
 use Rattle.std.specs.Str.{bytes_eq}
 use mathlib.Core.Path.{fun_ext}
 use Rattle.std.proofs.lemmas.Cmp.{nat_list_eq_equiv}
 use Rattle.pl_syntax.specs.Tree.{Name}
-use Rattle.pl_erase.specs.Emitted.{Numbers, number}
+use Rattle.pl_erase.specs.Emitted.{number}
 use Rattle.pl_erase.specs.Built.{or_nobody}
 
 pub or_old : (b : Bool) (n : ℕ) (o : Option ℕ) → or_nobody (cond b (Some n) o) ≡ cond b n (or_nobody o)

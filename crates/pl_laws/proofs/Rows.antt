@@ -172,8 +172,8 @@ module _ (n : ℕ) (numbers : Numbers) (vars : Vars) (h : Heap) (own : Own) (wor
   load_by x y (Some (values.Block b)) room k =
       let cell : Cell = record { block = b; index = 0; field = 0 } in
       let at : load_from (local_of own.env (numbers y)) ≡ chain (chain (alive_as (source.block_at h b)) (λ block. load_in block cell false)) (λ v. past (act.Load cell v) (binding own n v) world) =
-          ap load_from (local_value n numbers vars own.env y (values.Block b) locals k)
-          ∙ ap (λ r. chain (chain r (λ block. load_in block cell false)) (λ v. past (act.Load cell v) (binding own n v) world)) (block_is world.blocks h b blocks) in
+      ap load_from (local_value n numbers vars own.env y (values.Block b) locals k)
+      ∙ ap (λ r. chain (chain r (λ block. load_in block cell false)) (λ v. past (act.Load cell v) (binding own n v) world)) (block_is world.blocks h b blocks) in
       subst (λ r. SameEffect own world (suc n) (number x n numbers) (load_block x b (source.block_at h b) h vars) r) (sym at) (load_alive x b (source.block_at h b) room)
 
   pub load_same : (x y : Name) → n < length own.env → SameEffect own world (suc n) (number x n numbers) (load_at x (vars y) h vars) (effect_of next blank (c.Load n (c.Whole (numbers y)) false) own world)
@@ -201,8 +201,8 @@ module _ (n : ℕ) (numbers : Numbers) (vars : Vars) (h : Heap) (own : Own) (wor
   free_by y (Some Null) k = ap (λ r. chain r (freed own world)) (local_value n numbers vars own.env y Null locals k)
   free_by y (Some (values.Block b)) k =
       let at : chain (local_of own.env (numbers y)) (freed own world) ≡ chain (chain (alive_as (source.block_at h b)) (λ block. Ok (slice_set world.blocks b None))) (λ bs. past (act.Free b) own (with_blocks world bs)) =
-          ap (λ r. chain r (freed own world)) (local_value n numbers vars own.env y (values.Block b) locals k)
-          ∙ ap (λ r. chain (chain r (λ block. Ok (slice_set world.blocks b None))) (λ bs. past (act.Free b) own (with_blocks world bs))) (block_is world.blocks h b blocks) in
+      ap (λ r. chain r (freed own world)) (local_value n numbers vars own.env y (values.Block b) locals k)
+      ∙ ap (λ r. chain (chain r (λ block. Ok (slice_set world.blocks b None))) (λ bs. past (act.Free b) own (with_blocks world bs))) (block_is world.blocks h b blocks) in
       subst (λ r. SameEffect own world n numbers (free_block b (source.block_at h b) h vars) r) (sym at) (free_alive b (source.block_at h b))
 
   pub free_same : (y : Name) → SameEffect own world n numbers (free_at (vars y) h vars) (effect_of next blank (c.Free (numbers y)) own world)

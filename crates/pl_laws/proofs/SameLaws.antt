@@ -77,37 +77,39 @@ module _ (names : Names) (fs : List Function) (s : State) (d : c.State) (same : 
       let g' : c.Frame = record { left = left_of names n numbers rest; env = h.env; into = g.into; child = g.child } in
       let k : c.Frame = settled (left_of names n numbers rest) h.env g.into g.child in
       let after : c.State = record { world = h.after; threads = slice_set d.threads 0 (k ∷ []) ++ [] } in
-      let frame : SameFrame names f' g' = record { next = n; numbers = numbers; left = refl; locals = h.locals; room = subst (λ m. greatest (left_of names n numbers rest) < m) (sym h.room) room } in
-      (after,
-      ap (λ q. Some (chain (chain q (λ e. Ok (record { effect = e; left = left_of names n numbers rest }))) (λ done. Ok (done.effect.action, state_after fs d 0 g [] done)))) h.is,
-      record {
-        thread = f' ∷ [];
-        c_thread = k ∷ [];
-        only = ap (λ ts. set ts 0 (f' ∷ [])) same.only;
-        c_only = ap (λ ts. slice_set ts 0 (k ∷ []) ++ []) same.c_only;
-        threads = subst (SameFrame names f') (sym (settled_is names n numbers rest h.env g.into g.child)) frame;
-        shared = record {
-          blocks = h.blocks;
-          marks = ap (λ ls. map (λ lock. lock.mark) ls) h.locks ∙ same.shared.marks;
-          input = h.input ∙ same.shared.input;
-          outputs = h.outputs ∙ ap (λ l. l ++ out) same.shared.outputs;
-        };
-      })
+      let frame : SameFrame names f' g' = record { next = n; numbers = numbers; left = refl; locals = h.locals; room = subst (λ m. greatest (left_of names n numbers rest) < m) (sym h.room) room } in (
+        after,
+        ap (λ q. Some (chain (chain q (λ e. Ok (record { effect = e; left = left_of names n numbers rest }))) (λ done. Ok (done.effect.action, state_after fs d 0 g [] done)))) h.is,
+        record {
+          thread = f' ∷ [];
+          c_thread = k ∷ [];
+          only = ap (λ ts. set ts 0 (f' ∷ [])) same.only;
+          c_only = ap (λ ts. slice_set ts 0 (k ∷ []) ++ []) same.c_only;
+          threads = subst (SameFrame names f') (sym (settled_is names n numbers rest h.env g.into g.child)) frame;
+          shared = record {
+            blocks = h.blocks;
+            marks = ap (λ ls. map (λ lock. lock.mark) ls) h.locks ∙ same.shared.marks;
+            input = h.input ∙ same.shared.input;
+            outputs = h.outputs ∙ ap (λ l. l ++ out) same.shared.outputs;
+          };
+        },
+      )
 
   -- a frame with these statements left
   by_left : (f : Frame) (g : c.Frame) (n : ℕ) (numbers : Numbers) (l : List Stmt) → Locals n numbers f.vars g.env → greatest (left_of names n numbers l) < length g.env
       → SameOutcome names (step_left s 0 f [] l) (Some (chain (event_in (length d.threads) (blank (called fs (left_of names n numbers l))) (left_of names n numbers l) (own_of g) d.world) (λ done. Ok (done.effect.action, state_after fs d 0 g [] done))))
   by_left f g n numbers [] locals room = (
-      record { world = d.world; threads = slice_set d.threads 0 (c.resumed g.into None []) ++ [] },
-      refl,
-      record {
-        thread = [];
-        c_thread = [];
-        only = ap (λ ts. set ts 0 []) same.only;
-        c_only = ap (λ ts. slice_set ts 0 [] ++ []) same.c_only;
-        threads = tt;
-        shared = record { blocks = same.shared.blocks; marks = same.shared.marks; input = same.shared.input; outputs = same.shared.outputs };
-      })
+    record { world = d.world; threads = slice_set d.threads 0 (c.resumed g.into None []) ++ [] },
+    refl,
+    record {
+      thread = [];
+      c_thread = [];
+      only = ap (λ ts. set ts 0 []) same.only;
+      c_only = ap (λ ts. slice_set ts 0 [] ++ []) same.c_only;
+      threads = tt;
+      shared = record { blocks = same.shared.blocks; marks = same.shared.marks; input = same.shared.input; outputs = same.shared.outputs };
+    },
+  )
   by_left f g n numbers (Load place x (Whole y) is_ghost ∷ rest) locals room =
       let row : stmt.Basic = stmt.Load n (stmt.Whole (numbers y)) false in
       let below : n < length g.env = omega (arith, room, le-max_left n (greatest (left_of names (suc n) (number x n numbers) rest))) in
@@ -359,6 +361,7 @@ pub sound : (f : FunDecl) → IsMain f → Derives f → (input : List ℤ) (eve
     → ((t : ℕ) (fault : reason.Fault) → steps.Faults (c_main f) state t fault → ⊥) × ((s t : ℕ) → s < t → race_at (c_main f) state s t ≡ None)
 sound f m d input events state run =
     let r = second_ok (c_main f) (names_of f) events (start_of f input) (steps.start_of (c_main f) input) (start_same f input m) (start_ok f input m d) state run in
-    let threads = threads_same (c_main f) (names_of f) r.after state r.same r.annotated in
-    (λ t fault is. no_fault (step r.after t) (next_of (functions_of (c_main f)) state t) fault (names_of f) r.after r.annotated t (threads.stands t) (step_ok r.after r.annotated t) is,
-    no_race (c_main f) (names_of f) r.after state r.same)
+    let threads = threads_same (c_main f) (names_of f) r.after state r.same r.annotated in (
+      λ t fault is. no_fault (step r.after t) (next_of (functions_of (c_main f)) state t) fault (names_of f) r.after r.annotated t (threads.stands t) (step_ok r.after r.annotated t) is,
+      no_race (c_main f) (names_of f) r.after state r.same,
+    )
