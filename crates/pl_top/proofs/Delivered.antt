@@ -1,6 +1,6 @@
 -- Files that are put, and what was done where something failed.
 use Rattle.std.proofs.Common.{◌≡◌, ℕ, List, [], ◌∷◌, ◌++◌, length, take, refl, sym, subst}
-use Rattle.std.specs.Prelude.{Option, Some, None, Result, Ok, Err}
+use Rattle.std.specs.Prelude.{Option, Some, None, Result, Ok, Err, OnErr}
 use Rattle.std.specs.Io.KnownBytes.{Appends}
 use Rattle.std.proofs.lemmas.List.{take_all}
 use Rattle.std.proofs.Math.Nat.{le_refl}
@@ -52,3 +52,21 @@ part_of P Q I J files files' out out' f g (wrote o is all part) = wrote o (g o i
 -- words that are refused
 pub refused_part : (kind : UsageKind) (place : ℕ) (files files' : Option Files) (out out' : Option (List ℕ)) (text : List ℕ) → text ≡ usage_line kind place → files' ≡ files → AppendsPart out out' text → DidPart (λ puts. puts ≡ []) (λ o. o ≡ says 2 (usage_line kind place)) files files' out out'
 refused_part kind place files files' out out' text is same w = wrote (says 2 (usage_line kind place)) refl same (subst (AppendsPart out out') is w)
+
+-- what follows of each error follows of this one
+pub on_err_to : {T E : Type 0} (r : Result T E) (P Q : Type 0) → (P → Q) → OnErr r P → OnErr r Q
+on_err_to (Ok x) P Q f h = tt
+on_err_to (Err e) P Q f h = f h
+
+-- the same text, written behind the same
+pub appends_at : (a a' b : Option (List ℕ)) (t t' : List ℕ) → a ≡ a' → t ≡ t' → Appends a b t → Appends a' b t'
+appends_at a a' b t t' e f h = subst (λ x. Appends x b t') e (subst (Appends a b) f h)
+
+pub part_at : (a a' b : Option (List ℕ)) (t t' : List ℕ) → a ≡ a' → t ≡ t' → AppendsPart a b t → AppendsPart a' b t'
+part_at a a' b t t' e f h = subst (λ x. AppendsPart x b t') e (subst (AppendsPart a b) f h)
+
+pub puts_at : (files files' : Option Files) (name bytes bytes' : List ℕ) → bytes ≡ bytes' → Puts files files' name bytes → Puts files files' name bytes'
+puts_at files files' name bytes bytes' e h = subst (Puts files files' name) e h
+
+pub puts_end : (ps : List Put) (files between files' : Option Files) → files' ≡ between → AllPut ps files between → AllPut ps files files'
+puts_end ps files between files' e h = subst (AllPut ps files) (sym e) h

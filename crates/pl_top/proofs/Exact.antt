@@ -115,7 +115,7 @@ run_exactly bytes name opts input short few _ (not_run _ (is_undone place duty u
 }
 run_exactly bytes name opts input short few _ (not_run _ (is_not_built n)) = record {
   runs = λ h. absurd (never_runs 3 (λ e. omega (arith, e)) (λ e. omega (arith, e)) (λ e. omega (arith, e)) h);
-  undone = ((λ h. absurd (omega (arith, h))), (λ h. absurd (n.none (program_of h.2.2.main) h.2.2.2.file.file)));
+  undone = ((λ h. absurd (omega (arith, h))), (λ h. absurd (n.none (program_of h.2.2.main) h.2.2.file.file)));
   refused = ((λ h. (short, few, inl n)), (λ h. refl));
   never = λ e. omega (arith, e);
 }

@@ -12,7 +12,9 @@ use Rattle.pl_walk.proofs.WalkLaws.{all_done_derives}
 use Rattle.pl_erase.specs.Emitted.{program_of}
 use Rattle.pl_top.specs.Lines.{not_built, duty_line}
 use Rattle.pl_top.specs.Judging.{says, Outcome, IsFileOf, Refuses, is_undone, is_not_built}
-use Rattle.pl_top.specs.Checks.{said, Finds, AcceptedAs}
+use Rattle.pl_top.specs.Checks.{said, Finds, AcceptedAs, IsNotBuiltSaid, IsChecked}
+use Rattle.pl_top.specs.declared.judge.Checked.{Checked}
+use Rattle.pl_top.specs.declared.judge.Checked.TheVariants.{Accepted, Refused}
 use Rattle.pl_top.specs.declared.judge.Answer.{Answer}
 
 -- what follows of each Ok follows of this one
@@ -61,3 +63,7 @@ none_built bytes none a h = subst (Refuses bytes) (sym h) (is_not_built (record 
 -- what is said of a duty that is left undone
 pub said_undone : (main : FunDecl) (place : Pos) (duty : Duty) → Undone main place duty → (text : List ℕ) → text ≡ duty_line place duty → (p : Pos) × (d : Duty) × Undone main p d × (says 1 text ≡ says 1 (duty_line p d))
 said_undone main place duty undone text h = (place, duty, undone, ap (says 1) h)
+
+pub not_built_is : (bytes : List ℕ) → ((p : Program) → IsFile bytes p → ⊥) → (r : Checked) → IsNotBuiltSaid r → IsChecked bytes r
+not_built_is bytes none (Accepted typed) h = absurd h
+not_built_is bytes none (Refused a) h = none_built bytes none a h

@@ -2,6 +2,8 @@
 use Rattle.std.proofs.Common.{◌≡◌, ℕ, ℤ, Bool, true, false, List, [], ◌∷◌, ◌++◌, Option, Some, None, refl, sym, ap, ◌∙◌, subst, append_assoc, append-nil}
 use Rattle.std.specs.Prelude.{Result, Ok, Err, flat_map, if◌then◌else◌}
 use Rattle.pl_resource.specs.Faults.{chain}
+use Rattle.pl_resource.specs.Heap.{load_of, store_of, cas_of, free_of}
+use Rattle.pl_resource.specs.LockTable.{set_of, end_of}
 use Rattle.pl_resource.specs.declared.value.Fault.{Fault}
 use Rattle.pl_resource.specs.declared.value.Fault.TheVariants as fault
 use Rattle.pl_resource.specs.declared.value.Value.{Value}
@@ -11,12 +13,14 @@ use Rattle.c_meaning.specs.declared.action.Action.{Action}
 use Rattle.c_meaning.specs.declared.action.Action.TheVariants as act
 use Rattle.c_meaning.specs.declared.action.Event.{Event}
 use Rattle.c_meaning.specs.Tree.{Basic, Load, Store, Cas, Make, Free, NewLock, Acquire, Release, Read, Print, Call, Fork, Join, Return, Stmts, end, more, Stmt, Let, If, While, Check, Do, Function}
-use Rattle.c_meaning.specs.Values.{Env, Outcome, eval}
-use Rattle.c_meaning.specs.Effects.{World, Own, Effect, effect_of, made_block, has_fields, freed, joined}
+use Rattle.c_meaning.specs.Values.{Env, Outcome, eval, eval_onto, arguments, local_of}
+use Rattle.c_meaning.specs.Effects.{World, Own, Effect, effect_of, made_block, has_fields, freed, joined, past, with_blocks, with_locks, binding, offset_of, base_of, cell_at, eval_number, count_of, lock_of_local, Calls, Forks, Returns}
 use Rattle.c_meaning.specs.Resolve.{functions_of}
 use Rattle.c_meaning.specs.Events.{State, Thread, Frame, Done, event_in, faulted, event_of, event_from, event_of_frame, thread_of}
 use Rattle.c_meaning.specs.Steps.{Step, Runs, Replay, start_of}
-use Rattle.pl_top.specs.Runs.{printed_by, printed}
+use Rattle.std.proofs.lemmas.Grind.{flat_map-append}
+use Rattle.pl_top.specs.Lines.{number_line, outputs_text}
+use Rattle.pl_top.specs.Runs.{printed_by, printed, printed_line}
 
 -- what is printed behind what was printed
 abbrev pub Prints : World → Result Effect Fault → Type 0
@@ -38,8 +42,8 @@ made_prints atomic x own world first count = go (has_fields first) refl
     go false e = rw e tt
 
 freed_prints : (own : Own) (world : World) (v : Value) → Prints world (freed own world v)
-freed_prints own world (value.Block b) = chain_prints world _ _ (λ blocks. none_printed world)
-freed_prints own world (value.Lock k) = chain_prints world _ _ (λ locks. none_printed world)
+freed_prints own world (value.Block b) = chain_prints world (free_of world.blocks b) (λ blocks. past (act.Free b) own (with_blocks world blocks)) (λ blocks. none_printed world)
+freed_prints own world (value.Lock k) = chain_prints world (end_of world.locks k) (λ locks. past (act.FreeLock k) own (with_locks world locks)) (λ locks. none_printed world)
 freed_prints own world value.Null = tt
 freed_prints own world (value.Int n) = tt
 freed_prints own world (value.Truth b) = tt
@@ -49,20 +53,20 @@ joined_prints own world None = tt
 joined_prints own world (Some t) = none_printed world
 
 effect_prints : (next : ℕ) (blank : Env) (b : Basic) (own : Own) (world : World) → Prints world (effect_of next blank b own world)
-effect_prints next blank (Load x place atomic) own world = chain_prints world _ _ (λ at. chain_prints world _ _ (λ cell. chain_prints world _ _ (λ v. none_printed world)))
-effect_prints next blank (Store place e atomic) own world = chain_prints world _ _ (λ at. chain_prints world _ _ (λ v. chain_prints world _ _ (λ cell. chain_prints world _ _ (λ blocks. none_printed world))))
-effect_prints next blank (Cas x base old new) own world = chain_prints world _ _ (λ a. chain_prints world _ _ (λ b. chain_prints world _ _ (λ cell. chain_prints world _ _ (λ swap. none_printed world))))
-effect_prints next blank (Make x atomic first count) own world = chain_prints world _ _ (λ values. chain_prints world _ _ (λ n. chain_prints world _ _ (λ count. made_prints atomic x own world values count)))
-effect_prints next blank (Free base) own world = chain_prints world _ _ (λ v. freed_prints own world v)
+effect_prints next blank (Load x place atomic) own world = search (chain_prints, none_printed, made_prints)
+effect_prints next blank (Store place e atomic) own world = search (chain_prints, none_printed, made_prints)
+effect_prints next blank (Cas x base old new) own world = search (chain_prints, none_printed, made_prints)
+effect_prints next blank (Make x atomic first count) own world = search (chain_prints, none_printed, made_prints)
+effect_prints next blank (Free base) own world = chain_prints world (local_of own.env base) (freed own world) (freed_prints own world)
 effect_prints next blank (NewLock x) own world = none_printed world
-effect_prints next blank (Acquire lock) own world = chain_prints world _ _ (λ k. chain_prints world _ _ (λ locks. none_printed world))
-effect_prints next blank (Release lock) own world = chain_prints world _ _ (λ k. chain_prints world _ _ (λ locks. none_printed world))
+effect_prints next blank (Acquire lock) own world = search (chain_prints, none_printed, made_prints)
+effect_prints next blank (Release lock) own world = search (chain_prints, none_printed, made_prints)
 effect_prints next blank (Read x) own world = none_printed world
-effect_prints next blank (Print e) own world = chain_prints world _ _ (λ n. refl)
-effect_prints next blank (Call into f args) own world = chain_prints world _ _ (λ locals. none_printed world)
-effect_prints next blank (Fork f args) own world = chain_prints world _ _ (λ locals. none_printed world)
+effect_prints next blank (Print e) own world = chain_prints world (eval_number own.env e) (λ n. past (act.Print n) own (record world { outputs = world.outputs ++ n ∷ [] })) (λ n. refl)
+effect_prints next blank (Call into f args) own world = search (chain_prints, none_printed, made_prints)
+effect_prints next blank (Fork f args) own world = search (chain_prints, none_printed, made_prints)
 effect_prints next blank Join own world = joined_prints own world own.child
-effect_prints next blank (Return e) own world = chain_prints world _ _ (λ v. none_printed world)
+effect_prints next blank (Return e) own world = search (chain_prints, none_printed, made_prints)
 
 -- the same of what is done behind a statement
 abbrev pub DonePrints : World → Result Done Fault → Type 0
@@ -110,3 +114,11 @@ runs_print p (e ∷ es) before after r =
 -- the outputs of a replay are what its events printed
 pub replay_prints : (p : Program) (input : List ℤ) (es : List Event) (last : State) → Replay p input es last → last.world.outputs ≡ flat_map printed es
 replay_prints p input es last r = runs_print p es (start_of p input) last r
+
+-- numbers, each on a line, are the lines of the events that printed them
+lines_printed : (es : List Event) → flat_map printed_line es ≡ outputs_text (flat_map printed es)
+lines_printed [] = refl
+lines_printed (e ∷ es) = ap (λ (l : List ℕ). printed_line e ++ l) (lines_printed es) ∙ sym (flat_map-append number_line (printed e) (flat_map printed es))
+
+pub text_printed : (p : Program) (input : List ℤ) (es : List Event) (last : State) → Replay p input es last → (text : List ℕ) → text ≡ flat_map printed_line es → text ≡ outputs_text last.world.outputs
+text_printed p input es last r text e = e ∙ lines_printed es ∙ ap outputs_text (sym (replay_prints p input es last r))

@@ -44,11 +44,11 @@ pub emit_reads : (file : Given) (source name : List ℕ) (told left : Option (Li
 emit_reads (whole bytes) source name told left e = (e, refl)
 emit_reads long source name told left e = (e, refl)
 
-pub says_answered : (command : Command) (files files' : Option Files) (told left out out' : Option (List ℕ)) (s : ℕ) (a : Answer) → Judged command files told left (said a) → files' ≡ files → (s ≡ a.status) × Appends out out' a.text.items → Answered command files files' told left out out' s
-says_answered command files files' told left out out' s a j same w = record { outcome = said a; judged = j; status_is = sym w.0; delivered = same; written = w.1 }
+pub says_answered : (command : Command) (files files' : Option Files) (told left out out' : Option (List ℕ)) (s status : ℕ) (text : List ℕ) → Judged command files told left (says status text) → files' ≡ files → (s ≡ status) × Appends out out' text → Answered command files files' told left out out' s
+says_answered command files files' told left out out' s status text j same w = record { outcome = says status text; judged = j; status_is = sym w.0; delivered = same; written = w.1 }
 
-pub says_part : (command : Command) (files files' : Option Files) (told left out out' : Option (List ℕ)) (a : Answer) → Judged command files told left (said a) → files' ≡ files → AppendsPart out out' a.text.items → DidPart (Begins command files told) (MaySay command files told) files files' out out'
-says_part command files files' told left out out' a j same w = wrote (said a) (left, j) same w
+pub says_part : (command : Command) (files files' : Option Files) (told left out out' : Option (List ℕ)) (status : ℕ) (text : List ℕ) → Judged command files told left (says status text) → files' ≡ files → AppendsPart out out' text → DidPart (Begins command files told) (MaySay command files told) files files' out out'
+says_part command files files' told left out out' status text j same w = wrote (says status text) (left, j) same w
 
 pub nothing_yet : (command : Command) (files files' : Option Files) (told out out' : Option (List ℕ)) → files' ≡ files → out' ≡ out → DidPart (Begins command files told) (MaySay command files told) files files' out out'
 nothing_yet command files files' told out out' same quiet = put_whole [] none same quiet
@@ -167,3 +167,33 @@ went_part bytes (whole input) source name opts files files' told left out out' e
 
 pub go_refused : (bytes : List ℕ) (input : Given) (a : Answer) (source name : List ℕ) (opts : RunOpts) (files : Option Files) (told left : Option (List ℕ)) → Takes files source 1048576 (whole bytes) → Reads told left 1048576 input → PlansRun bytes input (go.Refused a) → Judged (c.Go source name opts) files told left (said a)
 go_refused bytes input a source name opts files told left takes reads h = record { file = whole bytes; takes = takes; input = input; reads = reads; judged = h name opts }
+
+pub go_long : (source name : List ℕ) (opts : RunOpts) (files : Option Files) (told left : Option (List ℕ)) → Takes files source 1048576 long → left ≡ told → Judged (c.Go source name opts) files told left (says 10 limit_file)
+go_long source name opts files told left takes same = record { file = long; takes = takes; input = whole []; reads = (same, refl); judged = refl }
+
+-- ---- the same, told of what stood before
+
+pub others_at : (files files0 files' : Option Files) (name : List ℕ) → files ≡ files0 → KeepsOthers files files' name → KeepsOthers files0 files' name
+others_at files files0 files' name e h = subst (λ f. KeepsOthers f files' name) e h
+
+pub puts_from : (files files0 files' : Option Files) (name bytes bytes' : List ℕ) → files ≡ files0 → bytes ≡ bytes' → Puts files files' name bytes → Puts files0 files' name bytes'
+puts_from files files0 files' name bytes bytes' e f h = subst (λ x. Puts x files' name bytes') e (subst (Puts files files' name) f h)
+
+pub reads_at : (told told0 left left' : Option (List ℕ)) (given : Given) → told ≡ told0 → left' ≡ left → Reads told left 1048576 given → Reads told0 left' 1048576 given
+reads_at told told0 left left' given e f h = subst (λ x. Reads x left' 1048576 given) e (subst (λ x. Reads told x 1048576 given) (sym f) h)
+
+pub went_at : (program : Program) (ns ns' : List ℤ) (opts : RunOpts) (name : List ℕ) (files files0 files' : Option Files) (out out0 out' : Option (List ℕ)) (s : ℕ) → ns ≡ ns' → files ≡ files0 → out ≡ out0 → Went program ns opts name files files' out out' s → Went program ns' opts name files0 files' out0 out' s
+went_at program ns ns' opts name files files0 files' out out0 out' s e f g h =
+    subst (λ n. Went program n opts name files0 files' out0 out' s) e (subst (λ x. Went program ns opts name x files' out0 out' s) f (subst (λ x. Went program ns opts name files files' x out' s) g h))
+
+pub went_part_at : (program : Program) (ns ns' : List ℤ) (opts : RunOpts) (name : List ℕ) (files files0 files' : Option Files) (out out0 out' : Option (List ℕ)) → ns ≡ ns' → files ≡ files0 → out ≡ out0 → DidPart (CanPut program ns opts name) (Says program ns opts name) files files' out out' → DidPart (CanPut program ns' opts name) (Says program ns' opts name) files0 files' out0 out'
+went_part_at program ns ns' opts name files files0 files' out out0 out' e f g h =
+    subst (λ n. DidPart (CanPut program n opts name) (Says program n opts name) files0 files' out0 out') e
+    (subst (λ x. DidPart (CanPut program ns opts name) (Says program ns opts name) x files' out0 out') f
+    (subst (λ x. DidPart (CanPut program ns opts name) (Says program ns opts name) files files' x out') g h))
+
+pub runs_at : (bytes bytes' : List ℕ) (input : Given) (e : Emitted) (numbers : List ℤ) → bytes ≡ bytes' → RunsWith bytes input e numbers → RunsWith bytes' input e numbers
+runs_at bytes bytes' input e numbers is h = subst (λ b. RunsWith b input e numbers) is h
+
+pub refused_at : (bytes bytes' : List ℕ) (input : Given) (a : Answer) → bytes ≡ bytes' → PlansRun bytes input (go.Refused a) → PlansRun bytes' input (go.Refused a)
+refused_at bytes bytes' input a is h = subst (λ b. PlansRun b input (go.Refused a)) is h

@@ -1,10 +1,11 @@
 // The numbers of an input.
-ghost use Rattle.std.specs.Prelude.{◌≡◌, ◌≤◌, ◌<◌, ◌+◌, ◌^◌, ◌++◌, ◌∷◌, [], true, IfOk, length};
+ghost use Rattle.std.specs.Prelude.{◌≡◌, ◌≤◌, ◌<◌, ◌+◌, ◌^◌, ◌++◌, ◌∷◌, [], true, OnOk, length};
 ghost use Rattle.std.specs.List.{list_all, prefix_len};
 ghost use Rattle.pl_base.specs.Tokens as spelling;
 ghost use Rattle.pl_top.specs.Input as text;
 
 use crate::lexing::{is_digit, value_of};
+use pl_base::Memory;
 use std::alloc::Global;
 
 /// Why an input has no numbers.
@@ -13,6 +14,17 @@ pub enum InputError {
     /// The first line that is refused, from 1.
     Line(u32),
     Memory,
+}
+
+impl From<Memory> for InputError {
+    ghost use Rattle.std.specs.Prelude.{◌≡◌};
+    ghost use Rattle.pl_top.specs.declared.input.InputError.TheVariants.{Memory};
+
+    ghost from_gives = { λ _ e. e ≡ Memory };
+
+    fn from(_: Memory) -> InputError {
+        InputError::Memory
+    }
 }
 
 fn all_digits(bytes: &[u8]) -> bool
@@ -96,6 +108,13 @@ fn first_line(bytes: &[u8]) -> (&[u8], &[u8])
     }
 }
 
+fn push(numbers: &mut Vec<i64>, number: i64) -> Result<(), Memory>
+    ensures { OnOk result (numbers.new.items ≡ numbers.old.items ++ number ∷ []) }
+{
+    numbers.push(number)?;
+    Ok(())
+}
+
 /// The numbers of an input.
 ///
 /// # Errors
@@ -113,9 +132,7 @@ pub fn read_numbers(alloc: Global, bytes: &[u8]) -> Result<Vec<i64>, InputError>
         let Some(number) = number_of(first) else {
             return Err(InputError::Line(line));
         };
-        if numbers.push(number).is_err() {
-            return Err(InputError::Memory);
-        }
+        push(&mut numbers, number)?;
         rest = behind;
         line += 1;
     }

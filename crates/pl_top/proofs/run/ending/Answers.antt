@@ -1,16 +1,14 @@
-use Rattle.std.proofs.Common.{List, ℕ, sym, subst}
-use Rattle.pl_top.specs.Judging.{Ends, ended, deadlock, bound, threads}
-use Rattle.c_runner.specs.declared.run_end.RunEnd.TheVariants as end
+use Rattle.pl_top.proofs.Ends.{ends_ended, ends_deadlock, ends_bound, ends_threads}
 use Rattle.pl_top.proofs.run.ending.Goals as goal
 
 pub returns-in-Ended : goal.returns-in-Ended
-returns-in-Ended c = ended
+returns-in-Ended c = ends_ended c.args.events c.args.end c.new.result.items c.in-Ended.is c.new.ensures.items
 
 pub returns-in_ok-deadlock_line-in-Deadlock : goal.returns-in_ok-deadlock_line-in-Deadlock
-returns-in_ok-deadlock_line-in-Deadlock c = let P : List ℕ → Type 0 = λ l. Ends c.args.events end.Deadlock 7 l in subst P (sym c.in_ok-deadlock_line.ensures) deadlock
+returns-in_ok-deadlock_line-in-Deadlock c = ends_deadlock c.args.events c.args.end c.in_ok-deadlock_line-in-Deadlock.field-0.items c.in-Deadlock.is c.in_ok-deadlock_line-in-Deadlock.ensures
 
 pub returns-in_ok-bound_line-in-StepBound : goal.returns-in_ok-bound_line-in-StepBound
-returns-in_ok-bound_line-in-StepBound c = let P : List ℕ → Type 0 = λ l. Ends c.args.events end.StepBound 8 l in subst P (sym c.in_ok-bound_line.ensures) bound
+returns-in_ok-bound_line-in-StepBound c = ends_bound c.args.events c.args.end c.in_ok-bound_line-in-StepBound.field-0.items c.in-StepBound.is c.in_ok-bound_line-in-StepBound.ensures
 
 pub returns-in_ok-from_slice-in-ThreadLimit : goal.returns-in_ok-from_slice-in-ThreadLimit
-returns-in_ok-from_slice-in-ThreadLimit c = let P : List ℕ → Type 0 = λ l. Ends c.args.events end.ThreadLimit 10 l in subst P (sym c.in_ok-from_slice.ensures) threads
+returns-in_ok-from_slice-in-ThreadLimit c = ends_threads c.args.events c.args.end c.in_ok-from_slice-in-ThreadLimit.field-0.items c.in-ThreadLimit.is c.in_ok-from_slice-in-ThreadLimit.ensures.items
