@@ -1,5 +1,5 @@
 -- The words of a command that is built give such a command.
-use Rattle.std.proofs.Common.{◌≡◌, ℕ, ◌+◌, ◌||◌, Bool, true, false, List, [], ◌∷◌, Option, Some, None, Result, Ok, Err, inl, inr, refl, sym, ap, ◌∙◌, subst, ◌≤◌, length, map, get_or, take, drop, ◌-◌, arith}
+use Rattle.std.proofs.Common.{◌≡◌, ℕ, ◌+◌, ◌||◌, Bool, true, false, List, [], ◌∷◌, Option, Some, None, Result, Ok, Err, inl, inr, sym, ap, subst, ◌≤◌, length, map, get_or, take, drop, ◌-◌, arith}
 use Rattle.std.specs.Prelude.{if◌then◌else◌, IfOk}
 use Rattle.std.specs.Str.{bytes_eq}
 use Rattle.std.proofs.lemmas.Bool.{or_cases}
@@ -12,7 +12,7 @@ use Rattle.pl_words.specs.declared.table.Verb.{Verb}
 use Rattle.pl_words.specs.declared.table.Verb.TheVariants as v
 use Rattle.pl_words.specs.Table.{verb_named, row_of}
 use Rattle.pl_words.specs.Words.{Said, nothing, next, needed, both, made, from, behind, is_dashed, option_word, plain_word, command_of, Tells}
-use Rattle.pl_top.specs.Words.{is_built, asked_of, IsBuilt}
+use Rattle.pl_top.specs.Words.{is_built, IsBuilt}
 
 abbrev pub IsBuiltVerb : Verb → Type 0
 IsBuiltVerb v.Check = Unit {0}

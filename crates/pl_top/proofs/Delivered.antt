@@ -1,5 +1,5 @@
 -- Files that are put, and what was done where something failed.
-use Rattle.std.proofs.Common.{◌≡◌, ℕ, List, [], ◌∷◌, ◌++◌, length, take, refl, sym, subst}
+use Rattle.std.proofs.Common.{◌≡◌, ℕ, List, [], ◌∷◌, ◌++◌, length, refl, sym, subst}
 use Rattle.std.specs.Prelude.{Option, Some, None, Result, Ok, Err, OnErr}
 use Rattle.std.specs.Io.KnownBytes.{Appends}
 use Rattle.std.proofs.lemmas.List.{take_all}
@@ -12,7 +12,7 @@ use Rattle.pl_words.specs.declared.command.UsageKind.{UsageKind}
 use Rattle.pl_top.specs.Lines.{usage_line}
 use Rattle.pl_top.specs.Telling.{Put, AllPut, AppendsPart}
 use Rattle.pl_top.specs.Judging.{Outcome, says}
-use Rattle.pl_top.specs.Calls.{Answered, Begins, none, DidPart, put_whole, put_failed, wrote, MaySay, PartDone}
+use Rattle.pl_top.specs.Calls.{Answered, none, DidPart, put_whole, put_failed, wrote, PartDone}
 
 -- one list of files after another
 pub put_both : (ps qs : List Put) (files between files' : Option Files) → AllPut ps files between → AllPut qs between files' → AllPut (ps ++ qs) files files'

@@ -1,6 +1,6 @@
 -- The first line of a text.
 use Rattle.std.proofs.Common.{◌≡◌, ℕ, suc, ℤ, Option, Some, None, ◌+◌, ◌-◌, ◌<◌, ◌==◌, Bool, true, false, List, [], ◌∷◌, ◌++◌, length, take, drop, refl, sym, ap, ap₂, ◌∙◌, arith, append_assoc, append-nil, length-append, length-drop}
-use Rattle.std.specs.Prelude.{not, if◌then◌else◌, Result, Ok, Err}
+use Rattle.std.specs.Prelude.{Result, Ok, Err}
 use Rattle.std.specs.List.{prefix_len}
 use Rattle.std.proofs.lemmas.List.{take_all}
 use Rattle.std.proofs.lemmas.Bool.{eqb-true}
@@ -18,6 +18,7 @@ first_behind (b ∷ bs) line h = go (first_behind bs (line ++ b ∷ []) longer) 
   where
     longer : 0 < length (line ++ b ∷ []) + length bs
     longer = omega (arith, length-append line (b ∷ []))
+
     go : lines_behind (line ++ b ∷ []) bs ≡ ((line ++ b ∷ []) ++ take (prefix_len is_inside bs) bs) ∷ lines_of (drop 1 (drop (prefix_len is_inside bs) bs))
         → (t : Bool) → (b == 10) ≡ t → lines_behind line (b ∷ bs) ≡ (line ++ take (prefix_len is_inside (b ∷ bs)) (b ∷ bs)) ∷ lines_of (drop 1 (drop (prefix_len is_inside (b ∷ bs)) (b ∷ bs)))
     go ih true e = rw e (ap (λ (l : List ℕ). l ∷ lines_of bs) (sym (append-nil line)))

@@ -1,6 +1,6 @@
 -- From the walk's answer to what is found in a file.
-use Rattle.std.proofs.Common.{◌≡◌, ℕ, List, [], ◌∷◌, Some, None, slice_get, sym, ap, ◌∙◌, subst, refl}
-use Rattle.std.specs.Prelude.{Option, Result, Ok, Err, IfOk}
+use Rattle.std.proofs.Common.{◌≡◌, ℕ, List, [], ◌∷◌, Some, None, slice_get, sym, ap, ◌∙◌, subst}
+use Rattle.std.specs.Prelude.{Result, Ok, Err, IfOk}
 use Rattle.pl_base.specs.declared.pos.Pos.{Pos}
 use Rattle.pl_syntax.specs.Tree.{FunDecl, Decl, Fun, Program}
 use Rattle.pl_syntax.specs.Sorts.{IsTyped, IsMain}
@@ -11,7 +11,7 @@ use Rattle.pl_laws.proofs.GoodLaws.{good}
 use Rattle.pl_walk.proofs.WalkLaws.{all_done_derives}
 use Rattle.pl_erase.specs.Emitted.{program_of}
 use Rattle.pl_top.specs.Lines.{not_built, duty_line}
-use Rattle.pl_top.specs.Judging.{says, Outcome, IsFileOf, Refuses, is_undone, is_not_built}
+use Rattle.pl_top.specs.Judging.{says, IsFileOf, Refuses, is_undone, is_not_built}
 use Rattle.pl_top.specs.Checks.{said, Finds, AcceptedAs, IsNotBuiltSaid, IsChecked}
 use Rattle.pl_top.specs.declared.judge.Checked.{Checked}
 use Rattle.pl_top.specs.declared.judge.Checked.TheVariants.{Accepted, Refused}

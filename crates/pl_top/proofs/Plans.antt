@@ -1,27 +1,20 @@
 -- From what is found in a file and an input to what is done.
-use Rattle.std.proofs.Common.{◌≡◌, ℕ, ℤ, List, [], ◌∷◌, length, refl, sym, ap, ◌∙◌, subst, subst₂}
-use Rattle.std.specs.Prelude.{Option, Result, Ok, Err}
+use Rattle.std.proofs.Common.{◌≡◌, ℕ, List, refl, sym, ap, ◌∙◌, subst, subst₂}
 use Rattle.pl_syntax.specs.Tree as t
-use Rattle.pl_syntax.specs.Sorts.{IsMain}
-use Rattle.pl_walk.specs.Walk.{AllDone}
 use Rattle.pl_walk.proofs.WalkLaws.{all_done_derives}
 use Rattle.pl_erase.specs.Emitted.{emitted, program_of}
 use Rattle.pl_laws.specs.SameRuns.{SameRuns}
 use Rattle.pl_laws.proofs.SameLaws.{same_runs, sound}
-use Rattle.c_syntax.specs.Tree.{Program}
 use Rattle.c_syntax.specs.Plain.{plain_program}
 use Rattle.pl_words.specs.declared.command.RunOpts.{RunOpts}
-use Rattle.pl_top.specs.Telling.{Given, whole, long}
-use Rattle.pl_top.specs.Lines.{accepted, limit_file, limit_input, input_line}
-use Rattle.pl_top.specs.Input.{input_of}
-use Rattle.pl_top.specs.Judging.{says, Outcome, Refuses, IsEmitted, JudgesCheck, checked, refused, JudgesEmit, not_emitted, JudgesGo, bad_input, not_run, JudgesRun, Judges}
-use Rattle.pl_top.specs.Checks.{said, AcceptedAs, IsChecked}
+use Rattle.pl_top.specs.Telling.{whole}
+use Rattle.pl_top.specs.Lines.{accepted}
+use Rattle.pl_top.specs.Judging.{says, Refuses, JudgesCheck, checked, JudgesEmit, not_emitted, JudgesGo, bad_input, not_run}
+use Rattle.pl_top.specs.Checks.{said, AcceptedAs}
 use Rattle.pl_top.specs.Runs.{IsSafe}
-use Rattle.pl_top.specs.Goes.{IsEmission, IsProgramOf, PlansEmit, PlansRun, PlansProgram}
+use Rattle.pl_top.specs.Goes.{IsEmission, IsProgramOf, PlansRun, PlansProgram}
 use Rattle.pl_top.specs.declared.judge.Answer.{Answer}
 use Rattle.pl_top.specs.declared.emit.Emitted.{Emitted}
-use Rattle.pl_top.specs.declared.plan.ToEmit.{ToEmit}
-use Rattle.pl_top.specs.declared.plan.ToEmit.TheVariants as emit
 use Rattle.pl_top.specs.declared.plan.ToRun.{ToRun}
 use Rattle.pl_top.specs.declared.plan.ToRun.TheVariants as go
 

@@ -1,22 +1,21 @@
 -- What a run printed is what its events printed.
 use Rattle.std.proofs.Common.{◌≡◌, ℕ, ℤ, Bool, true, false, List, [], ◌∷◌, ◌++◌, Option, Some, None, refl, sym, ap, ◌∙◌, subst, append_assoc, append-nil}
-use Rattle.std.specs.Prelude.{Result, Ok, Err, flat_map, if◌then◌else◌}
+use Rattle.std.specs.Prelude.{Result, Ok, Err, flat_map}
 use Rattle.pl_resource.specs.Faults.{chain}
-use Rattle.pl_resource.specs.Heap.{load_of, store_of, cas_of, free_of}
-use Rattle.pl_resource.specs.LockTable.{set_of, end_of}
+use Rattle.pl_resource.specs.Heap.{free_of}
+use Rattle.pl_resource.specs.LockTable.{end_of}
 use Rattle.pl_resource.specs.declared.value.Fault.{Fault}
-use Rattle.pl_resource.specs.declared.value.Fault.TheVariants as fault
 use Rattle.pl_resource.specs.declared.value.Value.{Value}
 use Rattle.pl_resource.specs.declared.value.Value.TheVariants as value
 use Rattle.c_syntax.specs.Tree.{Program}
 use Rattle.c_meaning.specs.declared.action.Action.{Action}
 use Rattle.c_meaning.specs.declared.action.Action.TheVariants as act
 use Rattle.c_meaning.specs.declared.action.Event.{Event}
-use Rattle.c_meaning.specs.Tree.{Basic, Load, Store, Cas, Make, Free, NewLock, Acquire, Release, Read, Print, Call, Fork, Join, Return, Stmts, end, more, Stmt, Let, If, While, Check, Do, Function}
-use Rattle.c_meaning.specs.Values.{Env, Outcome, eval, eval_onto, arguments, local_of}
-use Rattle.c_meaning.specs.Effects.{World, Own, Effect, effect_of, made_block, has_fields, freed, joined, past, with_blocks, with_locks, binding, offset_of, base_of, cell_at, eval_number, count_of, lock_of_local, Calls, Forks, Returns}
+use Rattle.c_meaning.specs.Tree.{Basic, Load, Store, Cas, Make, Free, NewLock, Acquire, Release, Read, Print, Call, Fork, Join, Return, Stmts, end, more, Let, If, While, Check, Do, Function}
+use Rattle.c_meaning.specs.Values.{Env, Outcome, eval, local_of}
+use Rattle.c_meaning.specs.Effects.{World, Own, Effect, effect_of, made_block, has_fields, freed, joined, past, with_blocks, with_locks, eval_number}
 use Rattle.c_meaning.specs.Resolve.{functions_of}
-use Rattle.c_meaning.specs.Events.{State, Thread, Frame, Done, event_in, faulted, event_of, event_from, event_of_frame, thread_of}
+use Rattle.c_meaning.specs.Events.{State, Thread, Done, event_in, faulted, event_from, thread_of}
 use Rattle.c_meaning.specs.Steps.{Step, Runs, Replay, start_of}
 use Rattle.std.proofs.lemmas.Grind.{flat_map-append}
 use Rattle.pl_top.specs.Lines.{number_line, outputs_text}
@@ -53,20 +52,20 @@ joined_prints own world None = tt
 joined_prints own world (Some t) = none_printed world
 
 effect_prints : (next : ℕ) (blank : Env) (b : Basic) (own : Own) (world : World) → Prints world (effect_of next blank b own world)
-effect_prints next blank (Load x place atomic) own world = search (chain_prints, none_printed, made_prints)
-effect_prints next blank (Store place e atomic) own world = search (chain_prints, none_printed, made_prints)
-effect_prints next blank (Cas x base old new) own world = search (chain_prints, none_printed, made_prints)
-effect_prints next blank (Make x atomic first count) own world = search (chain_prints, none_printed, made_prints)
+effect_prints next blank (Load x place atomic) own world = search (chain_prints, none_printed)
+effect_prints next blank (Store place e atomic) own world = search (chain_prints, none_printed)
+effect_prints next blank (Cas x base old new) own world = search (chain_prints, none_printed)
+effect_prints next blank (Make x atomic first count) own world = search (chain_prints, made_prints)
 effect_prints next blank (Free base) own world = chain_prints world (local_of own.env base) (freed own world) (freed_prints own world)
 effect_prints next blank (NewLock x) own world = none_printed world
-effect_prints next blank (Acquire lock) own world = search (chain_prints, none_printed, made_prints)
-effect_prints next blank (Release lock) own world = search (chain_prints, none_printed, made_prints)
+effect_prints next blank (Acquire lock) own world = search (chain_prints, none_printed)
+effect_prints next blank (Release lock) own world = search (chain_prints, none_printed)
 effect_prints next blank (Read x) own world = none_printed world
 effect_prints next blank (Print e) own world = chain_prints world (eval_number own.env e) (λ n. past (act.Print n) own (record world { outputs = world.outputs ++ n ∷ [] })) (λ n. refl)
-effect_prints next blank (Call into f args) own world = search (chain_prints, none_printed, made_prints)
-effect_prints next blank (Fork f args) own world = search (chain_prints, none_printed, made_prints)
+effect_prints next blank (Call into f args) own world = search (chain_prints, none_printed)
+effect_prints next blank (Fork f args) own world = search (chain_prints, none_printed)
 effect_prints next blank Join own world = joined_prints own world own.child
-effect_prints next blank (Return e) own world = search (chain_prints, none_printed, made_prints)
+effect_prints next blank (Return e) own world = search (chain_prints, none_printed)
 
 -- the same of what is done behind a statement
 abbrev pub DonePrints : World → Result Done Fault → Type 0

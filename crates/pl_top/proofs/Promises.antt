@@ -1,6 +1,6 @@
 -- From the calls of the host to what a command promises.
-use Rattle.std.proofs.Common.{◌≡◌, ℕ, ℤ, List, [], ◌∷◌, ◌++◌, length, refl, sym, ap, ◌∙◌, subst}
-use Rattle.std.specs.Prelude.{Option, Some, None, Result, Ok, Err}
+use Rattle.std.proofs.Common.{◌≡◌, ℕ, ℤ, List, [], ◌∷◌, refl, sym, ap, ◌∙◌, subst}
+use Rattle.std.specs.Prelude.{Option, Some, None, Ok}
 use Rattle.std.specs.Io.KnownBytes.{Appends}
 use Rattle.pl_base.specs.Outside.{Files, Puts, KeepsOthers}
 use Rattle.pl_words.specs.declared.command.Command.{Command}
@@ -11,11 +11,10 @@ use Rattle.c_syntax.specs.Plain.{plain_program}
 use Rattle.c_syntax.specs.Text.{program_text}
 use Rattle.c_meaning.specs.declared.action.Event.{Event}
 use Rattle.pl_top.specs.Telling.{Given, whole, long, Takes, Reads, Put, AllPut, AppendsPart}
-use Rattle.pl_top.specs.Words.{source_of}
-use Rattle.pl_top.specs.Lines.{accepted, limit_file, limit_input}
+use Rattle.pl_top.specs.Lines.{accepted, limit_file}
 use Rattle.pl_top.specs.Input.{input_of}
-use Rattle.pl_top.specs.Judging.{Outcome, says, IsEmitted, put_text, put_history, Ran, Ends, ran, emits, goes, JudgesRun, Judges}
-use Rattle.pl_top.specs.Calls.{ReadsFor, Judged, Answered, EmitsTo, GoesWith, Begins, none, emit_text, go_text, go_history, DidPart, put_whole, put_failed, wrote, MaySay}
+use Rattle.pl_top.specs.Judging.{Outcome, says, put_text, put_history, emits, goes, JudgesRun, Judges}
+use Rattle.pl_top.specs.Calls.{ReadsFor, Judged, Answered, GoesWith, Begins, none, emit_text, go_text, go_history, DidPart, put_whole, put_failed, wrote, MaySay}
 use Rattle.pl_top.specs.Checks.{said, SaysCheck}
 use Rattle.pl_top.specs.Runs.{IsDone}
 use Rattle.pl_top.specs.Goes.{IsProgramOf, PlansEmit, RunsWith, PlansRun, Says, CanPut, text_put, history_put, Went, FirstFailed}
@@ -24,7 +23,7 @@ use Rattle.pl_top.specs.declared.emit.Emitted.{Emitted}
 use Rattle.pl_top.specs.declared.run.Done.{Done}
 use Rattle.pl_top.specs.declared.plan.ToEmit.TheVariants as emit
 use Rattle.pl_top.specs.declared.plan.ToRun.TheVariants as go
-use Rattle.pl_top.proofs.Delivered.{put_both, put_one, keeps_same, part_of}
+use Rattle.pl_top.proofs.Delivered.{put_one, part_of}
 
 -- ---- an answer that puts no file
 
@@ -90,7 +89,7 @@ says_run program numbers opts name d h = record {
   line = h.line;
   ends = h.ends;
   is = ap (λ (es : List Event). record { status = d.status; puts = put_text name program ∷ put_history opts.history es; text = d.text.items }) (sym h.events)
-    ∙ ap (λ (text : List ℕ). record { status = d.status; puts = put_text name program ∷ put_history opts.history h.ran.events; text = text }) h.text;
+      ∙ ap (λ (text : List ℕ). record { status = d.status; puts = put_text name program ∷ put_history opts.history h.ran.events; text = text }) h.text;
 }
 
 pub all_puts : (name : List ℕ) (program : Program) (more : List Put) (files between after : Option Files) → Puts files between name (program_text program) → AllPut more between after → AllPut (put_text name program ∷ more) files after
@@ -114,6 +113,7 @@ history_failed program numbers opts name files between files' out out' d h p f q
   where
     can : CanPut program numbers opts name (put_text name program ∷ put_history opts.history d.history.events)
     can = subst (λ (es : List Event). CanPut program numbers opts name (put_text name program ∷ put_history opts.history es)) h.events (history_put h.ran)
+
     go : (o : Option (List ℕ)) → opts.history ≡ o → FirstFailed (put_history o d.history.events) between files' → DidPart (CanPut program numbers opts name) (Says program numbers opts name) files files' out out'
     go None e same = put_whole (put_text name program ∷ []) text_put (put_one _ files files' (subst (λ x. Puts files x name (program_text program)) (sym same) p)) quiet
     go (Some file) e k = put_failed (put_text name program ∷ []) (record { name = file; bytes = _ }) (subst (λ o. CanPut program numbers opts name (put_text name program ∷ put_history o d.history.events)) e can) between (put_one _ files between p) k quiet

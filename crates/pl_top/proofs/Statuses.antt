@@ -1,14 +1,14 @@
 -- The statuses of outcomes, and what is told of an answer.
-use Rattle.std.proofs.Common.{◌≡◌, ◌≢◌, ◌<◌, ◌≤◌, ℕ, List, refl, sym, subst, ap, arith}
+use Rattle.std.proofs.Common.{◌≡◌, ◌≢◌, ℕ, List, refl, subst, ap, arith}
 use Rattle.std.specs.Prelude.{Option, Result, Ok, Err, IfOk, OnErr}
-use Rattle.pl_base.specs.Outside.{Files, Rose, Counts}
+use Rattle.pl_base.specs.Outside.{Files, Counts}
 use Rattle.pl_words.specs.declared.command.Command.{Command}
 use Rattle.pl_words.specs.declared.command.Command.TheVariants.{Check, Emit, Go}
 use Rattle.c_runner.specs.declared.run_end.RunEnd.{RunEnd}
 use Rattle.pl_top.specs.declared.fetch.Fault.{Fault}
 use Rattle.pl_top.specs.declared.fetch.Fault.TheVariants as fault
 use Rattle.pl_top.specs.Telling.{Given, whole, long, is_in, is_out, told_of, HasCauses}
-use Rattle.pl_top.specs.Judging.{Outcome, Refuses, is_undone, is_not_built, Ends, ended, deadlock, bound, threads, JudgesCheck, checked, refused, JudgesEmit, emits, not_emitted, JudgesGo, goes, bad_input, not_run, Judges}
+use Rattle.pl_top.specs.Judging.{Outcome, Refuses, is_undone, is_not_built, Ends, ended, deadlock, bound, threads, checked, refused, emits, not_emitted, goes, bad_input, not_run, Judges}
 use Rattle.pl_top.specs.Calls.{Answered, PartDone}
 use Rattle.pl_top.proofs.Delivered.{answered_part}
 

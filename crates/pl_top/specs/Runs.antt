@@ -1,5 +1,5 @@
 -- What a run of a C program is found to be.
-use Rattle.std.specs.Prelude.{◌≡◌, ◌<◌, ⊤, ℕ, ℤ, List, [], ◌∷◌, ◌++◌, None, length, flat_map}
+use Rattle.std.specs.Prelude.{◌≡◌, ◌<◌, ⊤, ℕ, ℤ, List, [], ◌∷◌, ◌++◌, None, length}
 use Rattle.pl_words.specs.declared.command.RunOpts.{RunOpts}
 use Rattle.pl_resource.specs.declared.value.Fault.{Fault}
 use Rattle.c_syntax.specs.Tree.{Program}
@@ -10,8 +10,8 @@ use Rattle.c_meaning.specs.Events.{State}
 use Rattle.c_meaning.specs.Steps.{Faults, Replay, race_at}
 use Rattle.c_runner.specs.declared.run_end.RunEnd.{RunEnd}
 use Rattle.c_runner.specs.declared.run_end.RunEnd.TheVariants as end
-use Rattle.pl_top.specs.Lines.{number_line, outputs_text}
-use Rattle.pl_top.specs.Judging.{Ran, Ends, ran, Outcome, says}
+use Rattle.pl_top.specs.Lines.{outputs_text}
+use Rattle.pl_top.specs.Judging.{Ran, Ends}
 use Rattle.pl_top.specs.declared.run.Done.{Done}
 
 -- no run of a program comes to a fault or a race

@@ -52,7 +52,12 @@ pub fn check_file<H: Host>(alloc: Global, source: &str, host: &mut H) -> Result<
 }
 
 /// `emit F -o C`
-pub fn emit_file<H: Host>(alloc: Global, source: &str, name: &str, host: &mut H) -> Result<u8, Fault>
+pub fn emit_file<H: Host>(
+    alloc: Global,
+    source: &str,
+    name: &str,
+    host: &mut H,
+) -> Result<u8, Fault>
     ensures answered { IfOk result (λ s. Answered (c.Emit source.now name.now) (H.files host.old) (H.files host.new) (H.input host.old) (H.input host.new) (H.out host.old) (H.out host.new) s) }
     ensures part { OnErr result (DidPart (Begins (c.Emit source.now name.now) (H.files host.old) (H.input host.old)) (MaySay (c.Emit source.now name.now) (H.files host.old) (H.input host.old)) (H.files host.old) (H.files host.new) (H.out host.old) (H.out host.new)) }
     ensures in_faults { Counts (is_in result) (H.in_faults host.old) (H.in_faults host.new) }
@@ -69,7 +74,12 @@ pub fn emit_file<H: Host>(alloc: Global, source: &str, name: &str, host: &mut H)
 }
 
 // Puts the history of a run into its file, if it has one.
-fn keep_history<H: Host>(alloc: Global, opts: &RunOpts, history: &History, host: &mut H) -> Result<(), Fault>
+fn keep_history<H: Host>(
+    alloc: Global,
+    opts: &RunOpts,
+    history: &History,
+    host: &mut H,
+) -> Result<(), Fault>
     requires { length history.now.events < 2 ^ 32 - 1 }
     ensures puts { OnOk result (AllPut (put_history opts.now.history history.now.events) (H.files host.old) (H.files host.new)) }
     ensures part { OnErr result (FirstFailed (put_history opts.now.history history.now.events) (H.files host.old) (H.files host.new)) }
@@ -132,7 +142,16 @@ pub fn go_file<R: Threads + Wait + Sync, H: Host, G: Gate>(
     };
     let input = read_input(alloc, host, MOST as usize)?;
     match plan_run(alloc, bytes.as_slice(), &input)? {
-        ToRun::Runs(emitted, numbers) => go_on(rt, alloc, &emitted, numbers.as_slice(), name, opts, host, gate),
+        ToRun::Runs(emitted, numbers) => go_on(
+            rt,
+            alloc,
+            &emitted,
+            numbers.as_slice(),
+            name,
+            opts,
+            host,
+            gate,
+        ),
         ToRun::Refused(answer) => say(host, answer.status, answer.text.as_slice()),
     }
 }

@@ -77,13 +77,7 @@ fn number_of(line: &[u8]) -> Option<i64>
                 None
             }
         }
-        [_, ..] => {
-            if are_digits(line) {
-                above(line)
-            } else {
-                None
-            }
-        }
+        [_, ..] => { if are_digits(line) { above(line) } else { None } }
     }
 }
 

@@ -76,7 +76,15 @@ pub fn run<R: Threads + Wait + Sync, G: Gate>(
     ensures done { IfOk result (IsDone (plain_program program.now) numbers.now opts.now) }
     ensures few { IfOk result (λ d. length d.history.events < 2 ^ 32 - 1) }
 {
-    let Ran { end, history } = run_threads(rt, alloc, program, numbers, opts.steps, opts.workers, gate)?;
+    let Ran { end, history } = run_threads(
+        rt,
+        alloc,
+        program,
+        numbers,
+        opts.steps,
+        opts.workers,
+        gate,
+    )?;
     let events = history.events.as_slice();
     let mut text = outputs(alloc, events)?;
     let (status, line) = ending(alloc, end, events.len() as u32)?;

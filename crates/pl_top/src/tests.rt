@@ -14,7 +14,8 @@ const HISTORY: &[u8] =
     b"pulse-history 1\n0 alloc b0 1\n0 load b0.0.0 5\n0 print 5\n0 free b0\n0 return\nend 5\n";
 
 // The lines of the first file's C behind the prelude.
-const C_LINES: &[u8] = b"static void f_main(void);\nstatic void f_main(void) {\n  int64_t *v_r_1 = p_new_i64(INT64_C(5));\n  int64_t v_v_2 = *v_r_1;\n  p_print(v_v_2);\n  free(v_r_1);\n}\nint main(void) {\n  f_main();\n  return 0;\n}\n";
+const C_LINES: &[u8] =
+    b"static void f_main(void);\nstatic void f_main(void) {\n  int64_t *v_r_1 = p_new_i64(INT64_C(5));\n  int64_t v_v_2 = *v_r_1;\n  p_print(v_v_2);\n  free(v_r_1);\n}\nint main(void) {\n  f_main();\n  return 0;\n}\n";
 
 fn words_of(alloc: Global, list: &[&str]) -> Result<Vec<String>, AllocError> {
     let mut words = Vec::new(alloc);
@@ -161,12 +162,24 @@ fn words_are_read(rt: HostRuntime) -> Result<(), Fail> {
     let alloc = rt.alloc();
     for (list, line) in [
         (&[] as &[&str], "usage: NoCommand at 0\n"),
-        (&["prove", "f", "-o", "d"] as &[&str], "usage: UnknownCommand at 0\n"),
+        (
+            &["prove", "f", "-o", "d"] as &[&str],
+            "usage: UnknownCommand at 0\n",
+        ),
         (&["run", "c"] as &[&str], "usage: UnknownCommand at 0\n"),
         (&["go", "f"] as &[&str], "usage: MissingWord at 2\n"),
-        (&["go", "f", "-o", "c", "--workers", "65"] as &[&str], "usage: BadNumber at 5\n"),
-        (&["emit", "f", "-o", "c", "-o", "d"] as &[&str], "usage: Repeated at 4\n"),
-        (&["check", "f", "--steps", "5"] as &[&str], "usage: UnknownOption at 2\n"),
+        (
+            &["go", "f", "-o", "c", "--workers", "65"] as &[&str],
+            "usage: BadNumber at 5\n",
+        ),
+        (
+            &["emit", "f", "-o", "c", "-o", "d"] as &[&str],
+            "usage: Repeated at 4\n",
+        ),
+        (
+            &["check", "f", "--steps", "5"] as &[&str],
+            "usage: UnknownOption at 2\n",
+        ),
     ] {
         let words = words_of(alloc, list)?;
         let mut host = SteadyHost::new(alloc, one_file(alloc, FIRST)?, Vec::new(alloc));
@@ -247,9 +260,17 @@ fn an_input_is_read(rt: HostRuntime) -> Result<(), Fail> {
         (b"1\r\n".as_slice(), 3, "input line 1\n"),
         (b"-".as_slice(), 3, "input line 1\n"),
         (b"00000000000000000001".as_slice(), 3, "input line 1\n"),
-        (b"-9223372036854775808\n-0\n0000000000000000007".as_slice(), 0, "5\n"),
+        (
+            b"-9223372036854775808\n-0\n0000000000000000007".as_slice(),
+            0,
+            "5\n",
+        ),
     ] {
-        let mut host = SteadyHost::new(alloc, one_file(alloc, FIRST)?, Vec::from_slice(alloc, input)?);
+        let mut host = SteadyHost::new(
+            alloc,
+            one_file(alloc, FIRST)?,
+            Vec::from_slice(alloc, input)?,
+        );
         assert_eq!(rt;
             pulse_main(&rt, alloc, words.as_slice(), &mut host, &NullGate),
             status

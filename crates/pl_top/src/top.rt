@@ -87,7 +87,15 @@ fn run_answer<R: Threads + Wait + Sync, H: Host, G: Gate>(
     ensures out_faults { Counts (is_out result) (H.out_faults host.old) (H.out_faults host.new) }
 {
     match command {
-        Command::Go(source, name, opts) => go_file(rt, alloc, source.text(), name.text(), opts, host, gate),
+        Command::Go(source, name, opts) => go_file(
+            rt,
+            alloc,
+            source.text(),
+            name.text(),
+            opts,
+            host,
+            gate,
+        ),
         _ => unreachable!(),
     }
 }

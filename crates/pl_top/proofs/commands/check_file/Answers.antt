@@ -1,4 +1,4 @@
-use Rattle.std.proofs.Common.{◌∙◌, [], refl}
+use Rattle.std.proofs.Common.{◌∙◌, []}
 use Rattle.pl_words.specs.declared.command.Command.TheVariants.{Check}
 use Rattle.pl_top.specs.Telling.{given_by, whole}
 use Rattle.pl_top.proofs.Pieces.{on_err_from}

@@ -1,4 +1,4 @@
-use Rattle.std.proofs.Common.{◌∙◌, [], refl, sym}
+use Rattle.std.proofs.Common.{◌∙◌, refl}
 use Rattle.c_syntax.specs.Plain.{plain_program}
 use Rattle.pl_words.specs.declared.command.Command.TheVariants.{Go}
 use Rattle.pl_top.specs.Telling.{given_by}

@@ -1,4 +1,4 @@
-use Rattle.std.proofs.Common.{◌≡◌, List, ◌∙◌, sym}
+use Rattle.std.proofs.Common.{◌∙◌}
 use Rattle.c_syntax.specs.Plain.{plain_program}
 use Rattle.pl_top.proofs.Pieces.{on_err_from}
 use Rattle.pl_top.proofs.Judged.{if_ok_from}

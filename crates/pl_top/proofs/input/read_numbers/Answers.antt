@@ -1,7 +1,6 @@
-use Rattle.std.proofs.Common.{◌≡◌, ℕ, ℤ, List, ◌++◌, ◌∷◌, [], length, sym, ap, ◌∙◌, refl, subst, arith, rules}
-use Rattle.std.specs.Prelude.{Result, Some}
-use Rattle.pl_top.specs.Input.{input_of, numbers_from, lines_of}
-use Rattle.pl_top.proofs.InputLines.{onto, onto_none, read_one, refused_line, all_read, nothing_left}
+use Rattle.std.proofs.Common.{◌≡◌, ℤ, List, sym, ◌∙◌, subst, arith}
+use Rattle.pl_top.specs.Input.{input_of}
+use Rattle.pl_top.proofs.InputLines.{onto, onto_none, refused_line, all_read, nothing_left}
 use Rattle.pl_top.proofs.input.read_numbers.Goals as goal
 
 pub loop-rest-init : goal.loop-rest-init

@@ -1,4 +1,4 @@
-use Rattle.std.proofs.Common.{◌≡◌, ℕ, List, ◌++◌, length, refl, ap, ap₂, ◌∙◌, subst}
+use Rattle.std.proofs.Common.{ℕ, List, ◌++◌, length, refl, ap, ap₂, ◌∙◌, subst}
 use Rattle.std.specs.Prelude.{flat_map}
 use Rattle.c_syntax.specs.Plain.{plain_program}
 use Rattle.pl_top.specs.Judging.{Ends}
