@@ -243,6 +243,7 @@ impl<J: Naming> Machine<J> {
         ensures same { result.events ≡ self.1 }
         ensures replays { Replay J.program J.input result.events (shown self.0) }
         ensures goes { GoesOn J.program J.bound (start_of J.program J.input) 0 result.events (shown self.0) }
+        ensures within { length result.events ≤ J.bound }
     {
         let Machine { history, .. } = self;
         History {

@@ -1,5 +1,5 @@
 // Workers, one a thread where a thread can be started.
-ghost use Rattle.std.specs.Prelude.{◌≡◌, ◌<◌, ◌≤◌, IfOk};
+ghost use Rattle.std.specs.Prelude.{◌≡◌, ◌<◌, ◌≤◌, IfOk, length};
 ghost use Rattle.c_syntax.specs.Plain.{plain_program};
 ghost use Rattle.c_runner.specs.Runs.{IsRun, IsRuled};
 
@@ -59,6 +59,7 @@ pub fn run_threads<R: Threads + Wait + Sync, G: Gate>(
     requires bound { (1 ≤ bound) × (bound ≤ 4000000) }
     requires workers { (1 ≤ workers) × (workers ≤ 64) }
     ensures run { IfOk result (λ r. IsRun (plain_program program.now) input.now bound r.history.events r.end) }
+    ensures within { IfOk result (λ r. length r.history.events ≤ bound) }
     ensures one_worker { IfOk result (λ r. workers ≡ 1 → IsRuled (plain_program program.now) input.now bound r.history.events) }
 {
     run_named::<Brand, R, G>(
@@ -89,6 +90,7 @@ fn run_named<J: Naming + Send + Sync, R: Threads + Wait + Sync, G: Gate>(
     requires few { bound ≤ 4000000 }
     requires workers { 0 < workers }
     ensures run { IfOk result (λ r. IsRun J.program J.input J.bound r.history.events r.end) }
+    ensures within { IfOk result (λ r. length r.history.events ≤ J.bound) }
     ensures one_worker { IfOk result (λ r. workers ≡ 1 → IsRuled J.program J.input J.bound r.history.events) }
 {
     let (mut machine, mut part) = Machine::<J>::start(alloc, program, input, bound, blank, PARTS)?;

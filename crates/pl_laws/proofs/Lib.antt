@@ -1,1 +1,4 @@
 pub mod GoodLaws
+pub mod Locals
+pub mod Rows
+pub mod SameLaws

@@ -12,7 +12,7 @@ use Rattle.pl_syntax.specs.declared.expr.Sort.TheVariants.{I64, RefI64}
 use Rattle.pl_syntax.specs.declared.program.FunDecl as fun
 use Rattle.pl_syntax.specs.Plain.{plain_stmt, plain_fun}
 use Rattle.pl_syntax.proofs.TreeLaws.{block_list}
-use Rattle.pl_syntax.specs.Tree.{Expr, Int, Var, CellExpr, Whole, Prop, Emp, Stmt, Load, Alloc, Free, Print, FunDecl, list_of}
+use Rattle.pl_syntax.specs.Tree.{Expr, Int, Var, CellExpr, Whole, Prop, Emp, Stmt, Load, Alloc, Free, Print, FunDecl}
 use Rattle.pl_syntax.specs.Sorts.{Scope, sort_of, IsInteger, IsCell, AreSorted, IsEmp, IsBare, IsMain, IsTyped}
 use Rattle.pl_top.specs.declared.parsing.Stop.{Stop}
 use Rattle.pl_top.specs.declared.parsing.Stop.TheVariants as stop

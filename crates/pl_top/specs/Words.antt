@@ -1,60 +1,43 @@
--- The rule for words.
-use Rattle.std.specs.Prelude.{◌≡◌, ℕ, ◌==◌, Bool, false, List, [], ◌∷◌, Result, Ok, Err, if◌then◌else◌}
+-- What the words ask for.
+use Rattle.std.specs.Prelude.{ℕ, ◌||◌, Bool, List, [], ◌∷◌, Result, if◌then◌else◌}
 use Rattle.std.specs.Str.{bytes_eq}
-use denote.Ref.{Bor}
 use lib.Chars.{codes}
-use Rattle.pl_top.specs.declared.words.Command.{Command}
-use Rattle.pl_top.specs.declared.words.Command.TheVariants.{Check}
-use Rattle.pl_top.specs.declared.words.UsageKind.{UsageKind}
-use Rattle.pl_top.specs.declared.words.UsageKind.TheVariants.{NoCommand, UnknownCommand, UnknownOption, ExtraWord, MissingWord}
-use Rattle.pl_top.specs.declared.words.Usage.{Usage}
-use Rattle.pl_top.specs.declared.words.WordError.{WordError}
-use Rattle.pl_top.specs.declared.words.WordError.TheVariants as e
+use Rattle.pl_words.specs.declared.command.Command.{Command}
+use Rattle.pl_words.specs.declared.command.Command.TheVariants as c
+use Rattle.pl_words.specs.declared.command.UsageKind.TheVariants.{NoCommand, UnknownCommand}
+use Rattle.pl_words.specs.declared.command.WordError.{WordError}
+use Rattle.pl_words.specs.Words.{refused, command_of}
 
--- what is asked for, as plain data
-pub data Asked : Type 0 where
-  check : (file : List ℕ) → Asked
-
--- the source file that a command takes
-abbrev pub source_of : Asked → List ℕ
-source_of (check file) = file
-
-abbrev pub asked_of : Command → Asked
-asked_of (Check file) = check file
-
-abbrev pub usage : UsageKind → ℕ → Usage
-usage kind place = record { kind = kind; place = place }
-
--- whether a word begins with `-`
-abbrev pub is_option : List ℕ → Bool
-is_option [] = false
-is_option (b ∷ bs) = b == 45
-
-abbrev pub second_word : List ℕ → UsageKind
-second_word w = if is_option w then UnknownOption else ExtraWord
-
--- the one file behind the command, or the first wrong word
-abbrev pub file_of : List (List ℕ) → Result (List ℕ) Usage
-file_of [] = Err (usage MissingWord 1)
-file_of (w ∷ []) = if is_option w then Err (usage UnknownOption 1) else Ok w
-file_of (w ∷ x ∷ rest) = if is_option w then Err (usage UnknownOption 1) else Err (usage (second_word x) 2)
-
-abbrev pub check_of : Result (List ℕ) Usage → Result Asked Usage
-check_of (Ok file) = Ok (check file)
-check_of (Err u) = Err u
+-- whether a command is built; the others are unknown
+abbrev pub is_built : List ℕ → Bool
+is_built w = bytes_eq w (codes "check") || bytes_eq w (codes "emit") || bytes_eq w (codes "go")
 
 -- the command that the words give, or the first wrong word
-abbrev pub command_of : List (List ℕ) → Result Asked Usage
-command_of [] = Err (usage NoCommand 0)
-command_of (w ∷ rest) = if bytes_eq w (codes "check") then check_of (file_of rest) else Err (usage UnknownCommand 0)
+abbrev pub asked_of : List (List ℕ) → Result Command WordError
+asked_of [] = refused NoCommand 0
+asked_of (w ∷ rest) = if is_built w then command_of (w ∷ rest) else refused UnknownCommand 0
 
--- what an answer says, want of memory aside
-abbrev pub TellsWords : Result Command WordError → Result Asked Usage → Type 0
-TellsWords (Ok command) told = told ≡ Ok (asked_of command)
-TellsWords (Err (e.Usage u)) told = told ≡ Err u
-TellsWords (Err e.Memory) told = Unit {0}
+-- the source file that a command takes
+abbrev pub source_of : Command → List ℕ
+source_of (c.Check file jobs) = file
+source_of (c.Emit file text) = file
+source_of (c.Go file text run) = file
+source_of _ = []
 
-abbrev pub TellsFile : Result (Bor (List ℕ)) WordError → Result (List ℕ) Usage → Type 0
-TellsFile (Ok file) told = told ≡ Ok file.now
-TellsFile (Err (e.Usage u)) told = told ≡ Err u
-TellsFile (Err e.Memory) told = ⊥
+-- a command that always returns
+abbrev pub Returns : Command → Type 0
+Returns (c.Check file jobs) = Unit {0}
+Returns (c.Emit file text) = Unit {0}
+Returns _ = ⊥
+
+-- a command that runs a program
+abbrev pub Runs : Command → Type 0
+Runs (c.Go file text run) = Unit {0}
+Runs _ = ⊥
+
+-- a command that is built
+abbrev pub IsBuilt : Command → Type 0
+IsBuilt (c.Check file jobs) = Unit {0}
+IsBuilt (c.Emit file text) = Unit {0}
+IsBuilt (c.Go file text run) = Unit {0}
+IsBuilt _ = ⊥

@@ -1,10 +1,11 @@
 // The calls of a host that a command makes, each to its end.
-ghost use Rattle.std.specs.Prelude.{◌≡◌, IfOk, OnOk, OnErr, length};
+ghost use Rattle.std.specs.Prelude.{◌≡◌, ◌<◌, ◌≤◌, ◌^◌, IfOk, OnOk, OnErr, length};
 ghost use Rattle.std.specs.Io.KnownBytes.{Appends};
-ghost use Rattle.pl_base.specs.Outside.{Counts};
-ghost use Rattle.pl_top.specs.Telling.{Takes, AppendsPart, given_by, is_in, is_out};
+ghost use Rattle.pl_base.specs.Outside.{Counts, Puts, KeepsOthers};
+ghost use Rattle.pl_top.specs.Telling.{Takes, Reads, AppendsPart, given_by, is_in, is_out};
 
-use pl_base::{Host, HostError, Memory, TakeError};
+use pl_base::{Host, HostError, HostFailed, Memory, TakeError};
+use std::alloc::Global;
 
 /// What stops a command: a failed take or read, a failed put or write, or want of memory.
 #[derive(Clone, Copy, PartialEq, Eq, Debug)]
@@ -25,7 +26,7 @@ impl From<Memory> for Fault {
     }
 }
 
-/// What a file gave: its bytes, or that it has too many.
+/// What a file or the input gave: its bytes, or that it has too many.
 #[derive(Drop)]
 pub enum Fetched {
     Bytes(Vec<u8>),
@@ -44,6 +45,46 @@ pub fn take_file<H: Host>(host: &mut H, name: &str, most: u64) -> Result<Fetched
         Err(TakeError::TooLong) => Ok(Fetched::TooLong),
         Err(TakeError::Failed) => Err(Fault::In),
         Err(TakeError::Memory) => Err(Fault::Memory),
+    }
+}
+
+/// Reads the input to its end, or until it has given more than `most` bytes.
+pub fn read_input<H: Host>(alloc: Global, host: &mut H, most: usize) -> Result<Fetched, Fault>
+    requires { most < 2 ^ 32 }
+    ensures reads { IfOk result (λ f. Reads (H.input host.old) (H.input host.new) most (given_by f)) }
+    ensures in_faults { Counts (is_in result) (H.in_faults host.old) (H.in_faults host.new) }
+    ensures out_faults { Counts (is_out result) (H.out_faults host.old) (H.out_faults host.new) }
+    ensures same { (H.files host.new ≡ H.files host.old) × (H.out host.new ≡ H.out host.old) }
+{
+    let mut all = Vec::new(alloc);
+    let mut buf = [0u8; 4096];
+    'pieces: while all.len() <= most {
+        let count = match host.read_in(&mut buf) {
+            Ok(count) => count,
+            Err(HostFailed) => return Err(Fault::In),
+        };
+        if count == 0 {
+            return Ok(Fetched::Bytes(all));
+        }
+        if all.extend_from_slice(&buf[..count]).is_err() {
+            return Err(Fault::Memory);
+        }
+    }
+    Ok(Fetched::TooLong)
+}
+
+/// Puts a file. Where that fails it may hold anything.
+pub fn put_file<H: Host>(host: &mut H, name: &str, bytes: &[u8]) -> Result<(), Fault>
+    ensures puts { OnOk result (Puts (H.files host.old) (H.files host.new) name.now bytes.now) }
+    ensures others { OnErr result (KeepsOthers (H.files host.old) (H.files host.new) name.now) }
+    ensures in_faults { Counts (is_in result) (H.in_faults host.old) (H.in_faults host.new) }
+    ensures out_faults { Counts (is_out result) (H.out_faults host.old) (H.out_faults host.new) }
+    ensures same { (H.input host.new ≡ H.input host.old) × (H.out host.new ≡ H.out host.old) }
+{
+    match host.put(name, bytes) {
+        Ok(()) => Ok(()),
+        Err(HostError::Failed) => Err(Fault::Out),
+        Err(HostError::Memory) => Err(Fault::Memory),
     }
 }
 

@@ -32,7 +32,7 @@ fn is_blank(byte: u8) -> bool
     matches!(byte, b' ' | b'\t' | b'\r' | b'\n')
 }
 
-fn is_digit(byte: u8) -> bool
+pub(crate) fn is_digit(byte: u8) -> bool
     ensures { result ≡ spelling.is_digit byte }
 {
     byte.is_ascii_digit()
@@ -165,7 +165,7 @@ fn word_front(alloc: Global, text: &[u8]) -> Result<Front<'_>, Memory>
 }
 
 /// The number that digits spell, unless it is too large.
-fn value_of(digits: &[u8]) -> Option<u64>
+pub(crate) fn value_of(digits: &[u8]) -> Option<u64>
     requires { list_all spelling.is_digit digits.now ≡ true }
     ensures { MatchOption result (2 ^ 63 < spelling.digits_onto 0 digits.now) (λ n. (spelling.digits_onto 0 digits.now ≡ n) × (n ≤ 2 ^ 63)) }
 {

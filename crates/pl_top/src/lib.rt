@@ -1,18 +1,23 @@
-//! The program's top call: words, files, the reader of the small grammar, the walk, and the lines.
+//! The program's top call: words, files, the reader of the small grammar, the walk, the C of a program and its runs, and the
+//! lines.
 #![tactic(auto)]
 
+mod commands;
+mod emit;
 mod fetch;
+mod input;
 mod judge;
 mod lexing;
 mod lines;
 mod parsing;
+mod plan;
 mod reading;
+mod run;
 mod sorting;
 mod top;
 mod words;
 
-pub use top::{check_command, pulse_main};
-pub use words::{Command, Usage, UsageKind, WordError, read_words};
+pub use top::{check_command, pulse_main, run_command};
 
 #[cfg(test)]
 mod reading_tests;

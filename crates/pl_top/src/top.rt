@@ -2,57 +2,28 @@
 ghost use Rattle.std.specs.Prelude.{◌≡◌, ◌≢◌, Ok, Err, IfOk, OnErr, map, string_bytes};
 ghost use Rattle.std.specs.Io.KnownBytes.{Appends};
 ghost use Rattle.pl_base.specs.Outside.{Counts};
-ghost use Rattle.pl_top.specs.Telling.{HasCauses, is_in, is_out};
-ghost use Rattle.pl_top.specs.Words.{command_of, asked_of};
+ghost use Rattle.pl_words.specs.Ranges.{IsInRange};
+ghost use Rattle.pl_words.specs.declared.command.WordError.TheVariants as e;
+ghost use Rattle.pl_top.specs.Telling.{HasCauses, is_in, is_out, told_of};
+ghost use Rattle.pl_top.specs.Words.{asked_of, Returns, Runs, IsBuilt};
 ghost use Rattle.pl_top.specs.Lines.{usage_line};
-ghost use Rattle.pl_top.specs.Calls.{Answered, WrotePart, IsLineOf, Promised, IsExactFor};
+ghost use Rattle.pl_top.specs.Calls.{Answered, PartDone, Promised, IsExactFor};
 
-use crate::fetch::{Fault, take_file, write_text};
-use crate::judge::judge;
+use crate::commands::{check_file, emit_file, go_file};
+use crate::fetch::{Fault, write_text};
 use crate::lines;
-use crate::words::{Command, Usage, WordError, read_words};
+use crate::words::read_command;
 use pl_base::{Gate, Host, Memory};
+use pl_words::{Command, UsageKind, WordError};
 use std::alloc::Global;
 use std::sync::Wait;
 use std::thread::Threads;
 
-// The most bytes of a source file.
-const MOST: u64 = 1_048_576;
-
-// Answers a command, or says what stopped it.
-fn answer<H: Host>(alloc: Global, command: &Command, host: &mut H) -> Result<u8, Fault>
-    ensures answered { IfOk result (λ s. Answered (asked_of command.now) (H.files host.old) (H.out host.old) (H.out host.new) s) }
-    ensures part { OnErr result (WrotePart (IsLineOf (Ok (asked_of command.now)) (H.files host.old)) (H.out host.old) (H.out host.new)) }
-    ensures kept { H.files host.new ≡ H.files host.old }
-    ensures in_faults { Counts (is_in result) (H.in_faults host.old) (H.in_faults host.new) }
-    ensures out_faults { Counts (is_out result) (H.out_faults host.old) (H.out_faults host.new) }
+// The status of what stopped a command.
+fn told(answer: Result<u8, Fault>) -> Result<u8, Memory>
+    ensures { result ≡ told_of answer }
 {
-    let file = take_file(host, command.source(), MOST)?;
-    let answer = judge(alloc, &file)?;
-    write_text(host, answer.text.as_slice())?;
-    Ok(answer.status)
-}
-
-/// Answers a command that takes no lock. It always returns.
-///
-/// # Errors
-///
-/// `Memory` where memory is wanted; then no file was changed, and no fault counted.
-pub fn check_command<R: Threads + Sync, H: Host, G: Gate>(
-    _rt: &R,
-    alloc: Global,
-    command: &Command,
-    host: &mut H,
-    _gate: &G,
-) -> Result<u8, Memory>
-    ensures answered { IfOk result (λ s. s ≢ 4 → s ≢ 5 → Answered (asked_of command.now) (H.files host.old) (H.out host.old) (H.out host.new) s) }
-    ensures exact { IfOk result (λ s. s ≢ 4 → s ≢ 5 → IsExactFor (Ok (asked_of command.now)) (H.files host.old) s) }
-    ensures part { WrotePart (IsLineOf (Ok (asked_of command.now)) (H.files host.old)) (H.out host.old) (H.out host.new) }
-    ensures kept { H.files host.new ≡ H.files host.old }
-    ensures causes { IfOk result (λ s. HasCauses s (H.in_faults host.old) (H.in_faults host.new) (H.out_faults host.old) (H.out_faults host.new)) }
-    ensures memory { OnErr result ((H.in_faults host.new ≡ H.in_faults host.old) × (H.out_faults host.new ≡ H.out_faults host.old)) }
-{
-    match answer(alloc, command, host) {
+    match answer {
         Ok(status) => Ok(status),
         Err(Fault::In) => Ok(4),
         Err(Fault::Out) => Ok(5),
@@ -60,14 +31,105 @@ pub fn check_command<R: Threads + Sync, H: Host, G: Gate>(
     }
 }
 
+// Answers a command, or says what stopped it.
+fn check_answer<H: Host>(alloc: Global, command: &Command, host: &mut H) -> Result<u8, Fault>
+    requires { Returns command.now }
+    ensures answered { IfOk result (Answered command.now (H.files host.old) (H.files host.new) (H.input host.old) (H.input host.new) (H.out host.old) (H.out host.new)) }
+    ensures part { OnErr result (PartDone (Ok command.now) (H.files host.old) (H.files host.new) (H.input host.old) (H.out host.old) (H.out host.new)) }
+    ensures in_faults { Counts (is_in result) (H.in_faults host.old) (H.in_faults host.new) }
+    ensures out_faults { Counts (is_out result) (H.out_faults host.old) (H.out_faults host.new) }
+{
+    match command {
+        Command::Check(source, _) => check_file(alloc, source.text(), host),
+        Command::Emit(source, name) => emit_file(alloc, source.text(), name.text(), host),
+        _ => unreachable!(),
+    }
+}
+
+/// Answers `check` or `emit`. It takes no lock, and always returns.
+///
+/// `check` is done by one worker, whatever the number of jobs: a file has one function.
+///
+/// # Errors
+///
+/// `Memory` where memory is wanted; then no fault was counted.
+pub fn check_command<R: Threads + Sync, H: Host, G: Gate>(
+    _rt: &R,
+    alloc: Global,
+    command: &Command,
+    host: &mut H,
+    _gate: &G,
+) -> Result<u8, Memory>
+    requires returns { Returns command.now }
+    requires in_range { IsInRange command.now }
+    ensures answered { IfOk result (λ s. s ≢ 4 → s ≢ 5 → Answered command.now (H.files host.old) (H.files host.new) (H.input host.old) (H.input host.new) (H.out host.old) (H.out host.new) s) }
+    ensures exact { IfOk result (λ s. s ≢ 4 → s ≢ 5 → IsExactFor (Ok command.now) (H.files host.old) (H.input host.old) s) }
+    ensures part { PartDone (Ok command.now) (H.files host.old) (H.files host.new) (H.input host.old) (H.out host.old) (H.out host.new) }
+    ensures causes { IfOk result (λ s. HasCauses s (H.in_faults host.old) (H.in_faults host.new) (H.out_faults host.old) (H.out_faults host.new)) }
+    ensures memory { OnErr result ((H.in_faults host.new ≡ H.in_faults host.old) × (H.out_faults host.new ≡ H.out_faults host.old)) }
+{
+    told(check_answer(alloc, command, host))
+}
+
+// The same of a command that runs a program.
+fn run_answer<R: Threads + Wait + Sync, H: Host, G: Gate>(
+    rt: &R,
+    alloc: Global,
+    command: &Command,
+    host: &mut H,
+    gate: &G,
+) -> Result<u8, Fault>
+    requires runs { Runs command.now }
+    requires in_range { IsInRange command.now }
+    ensures answered { IfOk result (Answered command.now (H.files host.old) (H.files host.new) (H.input host.old) (H.input host.new) (H.out host.old) (H.out host.new)) }
+    ensures part { OnErr result (PartDone (Ok command.now) (H.files host.old) (H.files host.new) (H.input host.old) (H.out host.old) (H.out host.new)) }
+    ensures in_faults { Counts (is_in result) (H.in_faults host.old) (H.in_faults host.new) }
+    ensures out_faults { Counts (is_out result) (H.out_faults host.old) (H.out_faults host.new) }
+{
+    match command {
+        Command::Go(source, name, opts) => go_file(
+            rt,
+            alloc,
+            source.text(),
+            name.text(),
+            opts,
+            host,
+            gate,
+        ),
+        _ => unreachable!(),
+    }
+}
+
+/// Answers `go`. It may wait for its workers, and its promise holds if it returns.
+///
+/// # Errors
+///
+/// `Memory` where memory is wanted; then no fault was counted.
+pub fn run_command<R: Threads + Wait + Sync, H: Host, G: Gate>(
+    rt: &R,
+    alloc: Global,
+    command: &Command,
+    host: &mut H,
+    gate: &G,
+) -> Result<u8, Memory>
+    requires runs { Runs command.now }
+    requires in_range { IsInRange command.now }
+    ensures answered { IfOk result (λ s. s ≢ 4 → s ≢ 5 → Answered command.now (H.files host.old) (H.files host.new) (H.input host.old) (H.input host.new) (H.out host.old) (H.out host.new) s) }
+    ensures exact { IfOk result (λ s. s ≢ 4 → s ≢ 5 → IsExactFor (Ok command.now) (H.files host.old) (H.input host.old) s) }
+    ensures part { PartDone (Ok command.now) (H.files host.old) (H.files host.new) (H.input host.old) (H.out host.old) (H.out host.new) }
+    ensures causes { IfOk result (λ s. HasCauses s (H.in_faults host.old) (H.in_faults host.new) (H.out_faults host.old) (H.out_faults host.new)) }
+    ensures memory { OnErr result ((H.in_faults host.new ≡ H.in_faults host.old) × (H.out_faults host.new ≡ H.out_faults host.old)) }
+{
+    told(run_answer(rt, alloc, command, host, gate))
+}
+
 // Says that the words are refused.
-fn refuse_words<H: Host>(alloc: Global, usage: Usage, host: &mut H) -> u8
-    ensures answered { result ≢ 4 → result ≢ 5 → result ≢ 6 → (result ≡ 2) × Appends (H.out host.old) (H.out host.new) (usage_line usage) }
-    ensures part { WrotePart (IsLineOf (Err usage) (H.files host.old)) (H.out host.old) (H.out host.new) }
-    ensures kept { H.files host.new ≡ H.files host.old }
+fn refuse_words<H: Host>(alloc: Global, kind: UsageKind, place: u32, host: &mut H) -> u8
+    ensures answered { result ≢ 4 → result ≢ 5 → result ≢ 6 → Promised (Err (e.Usage kind place)) (H.files host.old) (H.files host.new) (H.input host.old) (H.input host.new) (H.out host.old) (H.out host.new) result }
+    ensures part { PartDone (Err (e.Usage kind place)) (H.files host.old) (H.files host.new) (H.input host.old) (H.out host.old) (H.out host.new) }
     ensures causes { HasCauses result (H.in_faults host.old) (H.in_faults host.new) (H.out_faults host.old) (H.out_faults host.new) }
 {
-    let Ok(line) = lines::usage_line(alloc, usage) else {
+    let Ok(line) = lines::usage_line(alloc, kind, place) else {
         return 6;
     };
     match write_text(host, line.as_slice()) {
@@ -78,17 +140,41 @@ fn refuse_words<H: Host>(alloc: Global, usage: Usage, host: &mut H) -> u8
     }
 }
 
+// Calls one of the two, by the command.
+fn answer<R: Threads + Wait + Sync, H: Host, G: Gate>(
+    rt: &R,
+    alloc: Global,
+    command: &Command,
+    host: &mut H,
+    gate: &G,
+) -> Result<u8, Memory>
+    requires built { IsBuilt command.now }
+    requires in_range { IsInRange command.now }
+    ensures answered { IfOk result (λ s. s ≢ 4 → s ≢ 5 → Answered command.now (H.files host.old) (H.files host.new) (H.input host.old) (H.input host.new) (H.out host.old) (H.out host.new) s) }
+    ensures exact { IfOk result (λ s. s ≢ 4 → s ≢ 5 → IsExactFor (Ok command.now) (H.files host.old) (H.input host.old) s) }
+    ensures part { PartDone (Ok command.now) (H.files host.old) (H.files host.new) (H.input host.old) (H.out host.old) (H.out host.new) }
+    ensures causes { IfOk result (λ s. HasCauses s (H.in_faults host.old) (H.in_faults host.new) (H.out_faults host.old) (H.out_faults host.new)) }
+    ensures memory { OnErr result ((H.in_faults host.new ≡ H.in_faults host.old) × (H.out_faults host.new ≡ H.out_faults host.old)) }
+{
+    match command {
+        Command::Go(..) => run_command(rt, alloc, command, host, gate),
+        _ => check_command(rt, alloc, command, host, gate),
+    }
+}
+
 /// Reads the words, and answers the command that they give. The answer is the status:
 ///
 /// | Status | Where |
 /// |---|---|
-/// | 0 | accepted |
+/// | 0 | accepted, or a run ended |
 /// | 1 | a duty is left undone |
 /// | 2 | the words are refused |
-/// | 3 | the file is refused |
+/// | 3 | the file or the input is refused |
 /// | 4 | a take or read failed |
 /// | 5 | a put or write failed |
 /// | 6 | want of memory |
+/// | 7 | a run came to a deadlock |
+/// | 8 | a run came to its bound |
 /// | 10 | a limit is passed |
 pub fn pulse_main<R: Threads + Wait + Sync, H: Host, G: Gate>(
     rt: &R,
@@ -97,16 +183,15 @@ pub fn pulse_main<R: Threads + Wait + Sync, H: Host, G: Gate>(
     host: &mut H,
     gate: &G,
 ) -> u8
-    ensures answered { result ≢ 4 → result ≢ 5 → result ≢ 6 → Promised (command_of (map string_bytes words.now)) (H.files host.old) (H.out host.old) (H.out host.new) result }
-    ensures exact { result ≢ 4 → result ≢ 5 → result ≢ 6 → IsExactFor (command_of (map string_bytes words.now)) (H.files host.old) result }
-    ensures part { WrotePart (IsLineOf (command_of (map string_bytes words.now)) (H.files host.old)) (H.out host.old) (H.out host.new) }
-    ensures kept { H.files host.new ≡ H.files host.old }
+    ensures answered { result ≢ 4 → result ≢ 5 → result ≢ 6 → Promised (asked_of (map string_bytes words.now)) (H.files host.old) (H.files host.new) (H.input host.old) (H.input host.new) (H.out host.old) (H.out host.new) result }
+    ensures exact { result ≢ 4 → result ≢ 5 → result ≢ 6 → IsExactFor (asked_of (map string_bytes words.now)) (H.files host.old) (H.input host.old) result }
+    ensures part { PartDone (asked_of (map string_bytes words.now)) (H.files host.old) (H.files host.new) (H.input host.old) (H.out host.old) (H.out host.new) }
     ensures causes { HasCauses result (H.in_faults host.old) (H.in_faults host.new) (H.out_faults host.old) (H.out_faults host.new) }
 {
-    match read_words(alloc, words) {
+    match read_command(alloc, words) {
         Err(WordError::Memory) => 6,
-        Err(WordError::Usage(usage)) => refuse_words(alloc, usage, host),
-        Ok(command) => match check_command(rt, alloc, &command, host, gate) {
+        Err(WordError::Usage(kind, place)) => refuse_words(alloc, kind, place, host),
+        Ok(command) => match answer(rt, alloc, &command, host, gate) {
             Ok(status) => status,
             Err(Memory) => 6,
         },
