@@ -1,3 +1,4 @@
 pub mod Numbering
 pub mod Sorted
 pub mod Fragments
+mod Examples
