@@ -1,5 +1,5 @@
 -- The statuses of outcomes, and what is told of an answer.
-use Rattle.std.proofs.Common.{◌≡◌, ◌≢◌, ℕ, List, refl, subst, ap, arith}
+use Rattle.std.proofs.Common.{◌≡◌, ◌≢◌, true, ℕ, List, refl, subst, ap, arith}
 use Rattle.std.specs.Prelude.{Option, Result, Ok, Err, IfOk, OnErr}
 use Rattle.pl_base.specs.Outside.{Files, Counts}
 use Rattle.pl_words.specs.declared.command.Command.{Command}
@@ -7,7 +7,7 @@ use Rattle.pl_words.specs.declared.command.Command.TheVariants.{Check, Emit, Go}
 use Rattle.c_runner.specs.declared.run_end.RunEnd.{RunEnd}
 use Rattle.pl_top.specs.declared.fetch.Fault.{Fault}
 use Rattle.pl_top.specs.declared.fetch.Fault.TheVariants as fault
-use Rattle.pl_top.specs.Telling.{Given, whole, long, is_in, is_out, told_of, HasCauses}
+use Rattle.pl_top.specs.Telling.{Given, whole, long, Untouched, is_in, is_out, told_of, HasCauses}
 use Rattle.pl_top.specs.Judging.{Outcome, Refuses, is_undone, is_not_built, Ends, ended, deadlock, bound, threads, checked, refused, emits, not_emitted, goes, bad_input, not_run, Judges}
 use Rattle.pl_top.specs.Calls.{Answered, PartDone}
 use Rattle.pl_top.proofs.Delivered.{answered_part}
@@ -84,3 +84,10 @@ told_memory in_before in_now out_before out_now (Ok s) i o = tt
 told_memory in_before in_now out_before out_now (Err fault.In) i o = tt
 told_memory in_before in_now out_before out_now (Err fault.Out) i o = tt
 told_memory in_before in_now out_before out_now (Err fault.Memory) i o = (i.kept refl, o.kept refl)
+
+-- where a take or a read failed, nothing was touched
+pub told_untouched : (command : Command) (files files' : Option Files) (told left out out' : Option (List ℕ)) (r : Result ℕ Fault) → IfOk r (Answered command files files' told left out out') → (is_in r ≡ true → Untouched files files' out out') → IfOk (told_of r) (λ s. s ≡ 4 → Untouched files files' out out')
+told_untouched command files files' told left out out' (Ok s) a h = λ e. absurd ((answered_told command files files' told left out out' s a).0 e)
+told_untouched command files files' told left out out' (Err fault.In) a h = λ e. h refl
+told_untouched command files files' told left out out' (Err fault.Out) a h = λ e. absurd (omega (arith, e))
+told_untouched command files files' told left out out' (Err fault.Memory) a h = tt

@@ -59,6 +59,11 @@ is_out (Err fault.In) = false
 is_out (Err fault.Out) = true
 is_out (Err fault.Memory) = false
 
+-- no file was put, and nothing was written
+pub record Untouched (files files' : Option Files) (out out' : Option (List ℕ)) : Type 0 where
+  pub unput : files' ≡ files
+  pub unwritten : out' ≡ out
+
 -- the status of what stopped a command; want of memory has none yet
 abbrev pub told_of : Result ℕ Fault → Result ℕ Memory
 told_of (Ok status) = Ok status

@@ -1,12 +1,12 @@
 // The commands: what each takes, puts and writes.
-ghost use Rattle.std.specs.Prelude.{◌≡◌, ◌<◌, ◌≤◌, ◌-◌, ◌^◌, ◌∷◌, [], ℕ, IfOk, OnOk, OnErr, length};
+ghost use Rattle.std.specs.Prelude.{◌≡◌, true, false, ◌<◌, ◌≤◌, ◌-◌, ◌^◌, ◌∷◌, [], ℕ, IfOk, OnOk, OnErr, length};
 ghost use Rattle.std.specs.Io.KnownBytes.{Appends};
 ghost use Rattle.pl_base.specs.Outside.{Counts};
 ghost use Rattle.c_syntax.specs.Plain.{plain_program};
 ghost use Rattle.c_syntax.specs.Text.{program_text};
 ghost use Rattle.pl_words.specs.Ranges as range;
 ghost use Rattle.pl_words.specs.declared.command.Command.TheVariants as c;
-ghost use Rattle.pl_top.specs.Telling.{AppendsPart, AllPut, is_in, is_out};
+ghost use Rattle.pl_top.specs.Telling.{AppendsPart, AllPut, Untouched, is_in, is_out};
 ghost use Rattle.pl_top.specs.Judging.{put_history};
 ghost use Rattle.pl_top.specs.Runs.{IsSafe};
 ghost use Rattle.pl_top.specs.Goes.{CanPut, Says, Went, FirstFailed};
@@ -31,6 +31,7 @@ const MOST: u64 = 1_048_576;
 fn say<H: Host>(host: &mut H, status: u8, text: &[u8]) -> Result<u8, Fault>
     ensures whole { IfOk result (λ s. (s ≡ status) × Appends (H.out host.old) (H.out host.new) text.now) }
     ensures part { OnErr result (AppendsPart (H.out host.old) (H.out host.new) text.now) }
+    ensures outward { is_in result ≡ false }
     ensures in_faults { Counts (is_in result) (H.in_faults host.old) (H.in_faults host.new) }
     ensures out_faults { Counts (is_out result) (H.out_faults host.old) (H.out_faults host.new) }
     ensures same { (H.files host.new ≡ H.files host.old) × (H.input host.new ≡ H.input host.old) }
@@ -43,6 +44,7 @@ fn say<H: Host>(host: &mut H, status: u8, text: &[u8]) -> Result<u8, Fault>
 pub fn check_file<H: Host>(alloc: Global, source: &str, host: &mut H) -> Result<u8, Fault>
     ensures answered { (jobs : ℕ) → IfOk result (λ s. Answered (c.Check source.now jobs) (H.files host.old) (H.files host.new) (H.input host.old) (H.input host.new) (H.out host.old) (H.out host.new) s) }
     ensures part { (jobs : ℕ) → OnErr result (DidPart (Begins (c.Check source.now jobs) (H.files host.old) (H.input host.old)) (MaySay (c.Check source.now jobs) (H.files host.old) (H.input host.old)) (H.files host.old) (H.files host.new) (H.out host.old) (H.out host.new)) }
+    ensures untouched { is_in result ≡ true → Untouched (H.files host.old) (H.files host.new) (H.out host.old) (H.out host.new) }
     ensures in_faults { Counts (is_in result) (H.in_faults host.old) (H.in_faults host.new) }
     ensures out_faults { Counts (is_out result) (H.out_faults host.old) (H.out_faults host.new) }
 {
@@ -60,6 +62,7 @@ pub fn emit_file<H: Host>(
 ) -> Result<u8, Fault>
     ensures answered { IfOk result (λ s. Answered (c.Emit source.now name.now) (H.files host.old) (H.files host.new) (H.input host.old) (H.input host.new) (H.out host.old) (H.out host.new) s) }
     ensures part { OnErr result (DidPart (Begins (c.Emit source.now name.now) (H.files host.old) (H.input host.old)) (MaySay (c.Emit source.now name.now) (H.files host.old) (H.input host.old)) (H.files host.old) (H.files host.new) (H.out host.old) (H.out host.new)) }
+    ensures untouched { is_in result ≡ true → Untouched (H.files host.old) (H.files host.new) (H.out host.old) (H.out host.new) }
     ensures in_faults { Counts (is_in result) (H.in_faults host.old) (H.in_faults host.new) }
     ensures out_faults { Counts (is_out result) (H.out_faults host.old) (H.out_faults host.new) }
 {
@@ -83,6 +86,7 @@ fn keep_history<H: Host>(
     requires { length history.now.events < 2 ^ 32 - 1 }
     ensures puts { OnOk result (AllPut (put_history opts.now.history history.now.events) (H.files host.old) (H.files host.new)) }
     ensures part { OnErr result (FirstFailed (put_history opts.now.history history.now.events) (H.files host.old) (H.files host.new)) }
+    ensures outward { is_in result ≡ false }
     ensures in_faults { Counts (is_in result) (H.in_faults host.old) (H.in_faults host.new) }
     ensures out_faults { Counts (is_out result) (H.out_faults host.old) (H.out_faults host.new) }
     ensures same { (H.input host.new ≡ H.input host.old) × (H.out host.new ≡ H.out host.old) }
@@ -110,6 +114,7 @@ fn go_on<R: Threads + Wait + Sync, H: Host, G: Gate>(
     requires in_range { range.IsRun opts.now }
     ensures went { IfOk result (Went (plain_program emitted.now.program) numbers.now opts.now name.now (H.files host.old) (H.files host.new) (H.out host.old) (H.out host.new)) }
     ensures part { OnErr result (DidPart (CanPut (plain_program emitted.now.program) numbers.now opts.now name.now) (Says (plain_program emitted.now.program) numbers.now opts.now name.now) (H.files host.old) (H.files host.new) (H.out host.old) (H.out host.new)) }
+    ensures outward { is_in result ≡ false }
     ensures in_faults { Counts (is_in result) (H.in_faults host.old) (H.in_faults host.new) }
     ensures out_faults { Counts (is_out result) (H.out_faults host.old) (H.out_faults host.new) }
     ensures same { H.input host.new ≡ H.input host.old }
@@ -133,6 +138,7 @@ pub fn go_file<R: Threads + Wait + Sync, H: Host, G: Gate>(
     requires in_range { range.IsRun opts.now }
     ensures answered { IfOk result (λ s. Answered (c.Go source.now name.now opts.now) (H.files host.old) (H.files host.new) (H.input host.old) (H.input host.new) (H.out host.old) (H.out host.new) s) }
     ensures part { OnErr result (DidPart (Begins (c.Go source.now name.now opts.now) (H.files host.old) (H.input host.old)) (MaySay (c.Go source.now name.now opts.now) (H.files host.old) (H.input host.old)) (H.files host.old) (H.files host.new) (H.out host.old) (H.out host.new)) }
+    ensures untouched { is_in result ≡ true → Untouched (H.files host.old) (H.files host.new) (H.out host.old) (H.out host.new) }
     ensures in_faults { Counts (is_in result) (H.in_faults host.old) (H.in_faults host.new) }
     ensures out_faults { Counts (is_out result) (H.out_faults host.old) (H.out_faults host.new) }
 {

@@ -1,5 +1,5 @@
 // The calls of a host that a command makes, each to its end.
-ghost use Rattle.std.specs.Prelude.{◌≡◌, ◌<◌, ◌≤◌, ◌^◌, IfOk, OnOk, OnErr, length};
+ghost use Rattle.std.specs.Prelude.{◌≡◌, false, ◌<◌, ◌≤◌, ◌^◌, IfOk, OnOk, OnErr, length};
 ghost use Rattle.std.specs.Io.KnownBytes.{Appends};
 ghost use Rattle.pl_base.specs.Outside.{Counts, Puts, KeepsOthers};
 ghost use Rattle.pl_top.specs.Telling.{Takes, Reads, AppendsPart, given_by, is_in, is_out};
@@ -77,6 +77,7 @@ pub fn read_input<H: Host>(alloc: Global, host: &mut H, most: usize) -> Result<F
 pub fn put_file<H: Host>(host: &mut H, name: &str, bytes: &[u8]) -> Result<(), Fault>
     ensures puts { OnOk result (Puts (H.files host.old) (H.files host.new) name.now bytes.now) }
     ensures others { OnErr result (KeepsOthers (H.files host.old) (H.files host.new) name.now) }
+    ensures outward { is_in result ≡ false }
     ensures in_faults { Counts (is_in result) (H.in_faults host.old) (H.in_faults host.new) }
     ensures out_faults { Counts (is_out result) (H.out_faults host.old) (H.out_faults host.new) }
     ensures same { (H.input host.new ≡ H.input host.old) × (H.out host.new ≡ H.out host.old) }
@@ -92,6 +93,7 @@ pub fn put_file<H: Host>(host: &mut H, name: &str, bytes: &[u8]) -> Result<(), F
 pub fn write_text<H: Host>(host: &mut H, text: &[u8]) -> Result<(), Fault>
     ensures whole { OnOk result (Appends (H.out host.old) (H.out host.new) text.now) }
     ensures part { OnErr result (AppendsPart (H.out host.old) (H.out host.new) text.now) }
+    ensures outward { is_in result ≡ false }
     ensures in_faults { Counts (is_in result) (H.in_faults host.old) (H.in_faults host.new) }
     ensures out_faults { Counts (is_out result) (H.out_faults host.old) (H.out_faults host.new) }
     ensures same { (H.files host.new ≡ H.files host.old) × (H.input host.new ≡ H.input host.old) }

@@ -307,3 +307,21 @@ fn each_call_of_a_run_fails_once(rt: HostRuntime) -> Result<(), Fail> {
     }
     Ok(())
 }
+
+#[test]
+fn each_call_of_an_emission_fails_once(rt: HostRuntime) -> Result<(), Fail> {
+    let alloc = rt.alloc();
+    let words = words_of(alloc, &["emit", "f", "-o", "c"])?;
+    for (k, status, text) in [(0, 4, false), (1, 5, false), (2, 5, true), (3, 0, true)] {
+        let mut fails = Vec::new(alloc);
+        fails.push(k)?;
+        let mut host = MemoryHost::new(alloc, one_file(alloc, FIRST)?, Vec::new(alloc), fails);
+        assert_eq!(rt;
+            pulse_main(&rt, alloc, words.as_slice(), &mut host, &NullGate),
+            status
+        );
+        assert_eq!(rt; ends_with(host.file("c"), C_LINES), text);
+        assert_eq!(rt; host.out().is_empty(), status != 0);
+    }
+    Ok(())
+}

@@ -1,10 +1,10 @@
 // The top call.
-ghost use Rattle.std.specs.Prelude.{◌≡◌, ◌≢◌, Ok, Err, IfOk, OnErr, map, string_bytes};
+ghost use Rattle.std.specs.Prelude.{◌≡◌, ◌≢◌, true, Ok, Err, IfOk, OnErr, map, string_bytes};
 ghost use Rattle.std.specs.Io.KnownBytes.{Appends};
 ghost use Rattle.pl_base.specs.Outside.{Counts};
 ghost use Rattle.pl_words.specs.Ranges.{IsInRange};
 ghost use Rattle.pl_words.specs.declared.command.WordError.TheVariants as e;
-ghost use Rattle.pl_top.specs.Telling.{HasCauses, is_in, is_out, told_of};
+ghost use Rattle.pl_top.specs.Telling.{HasCauses, Untouched, is_in, is_out, told_of};
 ghost use Rattle.pl_top.specs.Words.{asked_of, Returns, Runs, IsBuilt};
 ghost use Rattle.pl_top.specs.Lines.{usage_line};
 ghost use Rattle.pl_top.specs.Calls.{Answered, PartDone, Promised, IsExactFor};
@@ -36,6 +36,7 @@ fn check_answer<H: Host>(alloc: Global, command: &Command, host: &mut H) -> Resu
     requires { Returns command.now }
     ensures answered { IfOk result (Answered command.now (H.files host.old) (H.files host.new) (H.input host.old) (H.input host.new) (H.out host.old) (H.out host.new)) }
     ensures part { OnErr result (PartDone (Ok command.now) (H.files host.old) (H.files host.new) (H.input host.old) (H.out host.old) (H.out host.new)) }
+    ensures untouched { is_in result ≡ true → Untouched (H.files host.old) (H.files host.new) (H.out host.old) (H.out host.new) }
     ensures in_faults { Counts (is_in result) (H.in_faults host.old) (H.in_faults host.new) }
     ensures out_faults { Counts (is_out result) (H.out_faults host.old) (H.out_faults host.new) }
 {
@@ -65,6 +66,7 @@ pub fn check_command<R: Threads + Sync, H: Host, G: Gate>(
     ensures answered { IfOk result (λ s. s ≢ 4 → s ≢ 5 → Answered command.now (H.files host.old) (H.files host.new) (H.input host.old) (H.input host.new) (H.out host.old) (H.out host.new) s) }
     ensures exact { IfOk result (λ s. s ≢ 4 → s ≢ 5 → IsExactFor (Ok command.now) (H.files host.old) (H.input host.old) s) }
     ensures part { PartDone (Ok command.now) (H.files host.old) (H.files host.new) (H.input host.old) (H.out host.old) (H.out host.new) }
+    ensures untouched { IfOk result (λ s. s ≡ 4 → Untouched (H.files host.old) (H.files host.new) (H.out host.old) (H.out host.new)) }
     ensures causes { IfOk result (λ s. HasCauses s (H.in_faults host.old) (H.in_faults host.new) (H.out_faults host.old) (H.out_faults host.new)) }
     ensures memory { OnErr result ((H.in_faults host.new ≡ H.in_faults host.old) × (H.out_faults host.new ≡ H.out_faults host.old)) }
 {
@@ -83,6 +85,7 @@ fn run_answer<R: Threads + Wait + Sync, H: Host, G: Gate>(
     requires in_range { IsInRange command.now }
     ensures answered { IfOk result (Answered command.now (H.files host.old) (H.files host.new) (H.input host.old) (H.input host.new) (H.out host.old) (H.out host.new)) }
     ensures part { OnErr result (PartDone (Ok command.now) (H.files host.old) (H.files host.new) (H.input host.old) (H.out host.old) (H.out host.new)) }
+    ensures untouched { is_in result ≡ true → Untouched (H.files host.old) (H.files host.new) (H.out host.old) (H.out host.new) }
     ensures in_faults { Counts (is_in result) (H.in_faults host.old) (H.in_faults host.new) }
     ensures out_faults { Counts (is_out result) (H.out_faults host.old) (H.out_faults host.new) }
 {
@@ -117,6 +120,7 @@ pub fn run_command<R: Threads + Wait + Sync, H: Host, G: Gate>(
     ensures answered { IfOk result (λ s. s ≢ 4 → s ≢ 5 → Answered command.now (H.files host.old) (H.files host.new) (H.input host.old) (H.input host.new) (H.out host.old) (H.out host.new) s) }
     ensures exact { IfOk result (λ s. s ≢ 4 → s ≢ 5 → IsExactFor (Ok command.now) (H.files host.old) (H.input host.old) s) }
     ensures part { PartDone (Ok command.now) (H.files host.old) (H.files host.new) (H.input host.old) (H.out host.old) (H.out host.new) }
+    ensures untouched { IfOk result (λ s. s ≡ 4 → Untouched (H.files host.old) (H.files host.new) (H.out host.old) (H.out host.new)) }
     ensures causes { IfOk result (λ s. HasCauses s (H.in_faults host.old) (H.in_faults host.new) (H.out_faults host.old) (H.out_faults host.new)) }
     ensures memory { OnErr result ((H.in_faults host.new ≡ H.in_faults host.old) × (H.out_faults host.new ≡ H.out_faults host.old)) }
 {
@@ -127,6 +131,7 @@ pub fn run_command<R: Threads + Wait + Sync, H: Host, G: Gate>(
 fn refuse_words<H: Host>(alloc: Global, kind: UsageKind, place: u32, host: &mut H) -> u8
     ensures answered { result ≢ 4 → result ≢ 5 → result ≢ 6 → Promised (Err (e.Usage kind place)) (H.files host.old) (H.files host.new) (H.input host.old) (H.input host.new) (H.out host.old) (H.out host.new) result }
     ensures part { PartDone (Err (e.Usage kind place)) (H.files host.old) (H.files host.new) (H.input host.old) (H.out host.old) (H.out host.new) }
+    ensures untouched { result ≡ 4 → Untouched (H.files host.old) (H.files host.new) (H.out host.old) (H.out host.new) }
     ensures causes { HasCauses result (H.in_faults host.old) (H.in_faults host.new) (H.out_faults host.old) (H.out_faults host.new) }
 {
     let Ok(line) = lines::usage_line(alloc, kind, place) else {
@@ -153,6 +158,7 @@ fn answer<R: Threads + Wait + Sync, H: Host, G: Gate>(
     ensures answered { IfOk result (λ s. s ≢ 4 → s ≢ 5 → Answered command.now (H.files host.old) (H.files host.new) (H.input host.old) (H.input host.new) (H.out host.old) (H.out host.new) s) }
     ensures exact { IfOk result (λ s. s ≢ 4 → s ≢ 5 → IsExactFor (Ok command.now) (H.files host.old) (H.input host.old) s) }
     ensures part { PartDone (Ok command.now) (H.files host.old) (H.files host.new) (H.input host.old) (H.out host.old) (H.out host.new) }
+    ensures untouched { IfOk result (λ s. s ≡ 4 → Untouched (H.files host.old) (H.files host.new) (H.out host.old) (H.out host.new)) }
     ensures causes { IfOk result (λ s. HasCauses s (H.in_faults host.old) (H.in_faults host.new) (H.out_faults host.old) (H.out_faults host.new)) }
     ensures memory { OnErr result ((H.in_faults host.new ≡ H.in_faults host.old) × (H.out_faults host.new ≡ H.out_faults host.old)) }
 {
@@ -186,6 +192,7 @@ pub fn pulse_main<R: Threads + Wait + Sync, H: Host, G: Gate>(
     ensures answered { result ≢ 4 → result ≢ 5 → result ≢ 6 → Promised (asked_of (map string_bytes words.now)) (H.files host.old) (H.files host.new) (H.input host.old) (H.input host.new) (H.out host.old) (H.out host.new) result }
     ensures exact { result ≢ 4 → result ≢ 5 → result ≢ 6 → IsExactFor (asked_of (map string_bytes words.now)) (H.files host.old) (H.input host.old) result }
     ensures part { PartDone (asked_of (map string_bytes words.now)) (H.files host.old) (H.files host.new) (H.input host.old) (H.out host.old) (H.out host.new) }
+    ensures untouched { result ≡ 4 → Untouched (H.files host.old) (H.files host.new) (H.out host.old) (H.out host.new) }
     ensures causes { HasCauses result (H.in_faults host.old) (H.in_faults host.new) (H.out_faults host.old) (H.out_faults host.new) }
 {
     match read_command(alloc, words) {
