@@ -56,6 +56,13 @@ impl Tokens {
         self.list.len() as u32
     }
 
+    /// All tokens.
+    pub fn as_slice(&self) -> &[Token]
+        ensures { result.now ≡ self.now }
+    {
+        self.list.as_slice()
+    }
+
     /// The token at `k`.
     pub fn at(&self, k: u32) -> &Token
         requires { k < length self.now }

@@ -1,0 +1,10 @@
+pub mod Tree
+pub mod Plain
+pub mod Text
+pub mod Forms
+pub mod Reading
+pub mod Names
+pub mod ExprReaders
+pub mod StmtReaders
+pub mod SourceReaders
+pub mod Answers
