@@ -1,0 +1,12 @@
+pub mod Commas
+pub mod ByName
+pub mod Groups
+pub mod Kinds
+pub mod Least
+pub mod Lent
+pub mod Lines
+pub mod Locals
+pub mod Seen
+pub mod Sorts
+pub mod States
+pub mod Tables
