@@ -1,5 +1,5 @@
 -- The words of a command that is built give such a command.
-use Rattle.std.proofs.Common.{◌≡◌, ℕ, ◌+◌, ◌||◌, Bool, true, false, List, [], ◌∷◌, Option, Some, None, Result, Ok, Err, inl, inr, sym, ap, subst, ◌≤◌, length, map, get_or, take, drop, ◌-◌, arith}
+use Rattle.std.proofs.Common.{◌≡◌, ℕ, ◌+◌, ◌||◌, Bool, true, false, List, [], ◌∷◌, Option, Some, None, Result, Ok, Err, inl, inr, refl, sym, ap, ◌∙◌, subst, ◌≤◌, length, map, get_or, take, drop, ◌-◌, arith}
 use Rattle.std.specs.Prelude.{if◌then◌else◌, IfOk}
 use Rattle.std.specs.Str.{bytes_eq}
 use Rattle.std.proofs.lemmas.Bool.{or_cases}
@@ -17,6 +17,8 @@ use Rattle.pl_top.specs.Words.{is_built, IsBuilt}
 abbrev pub IsBuiltVerb : Verb → Type 0
 IsBuiltVerb v.Check = Unit {0}
 IsBuiltVerb v.Emit = Unit {0}
+IsBuiltVerb v.Run = Unit {0}
+IsBuiltVerb v.Replay = Unit {0}
 IsBuiltVerb v.Go = Unit {0}
 IsBuiltVerb _ = ⊥
 
@@ -35,6 +37,8 @@ if_built P false x y h k = k
 made_built : (verb : Verb) → IsBuiltVerb verb → (place : ℕ) (said : Said) → IfOk (made verb place said) IsBuilt
 made_built v.Check b place said = all_built IsBuilt (needed place said.first) _ (λ _. tt)
 made_built v.Emit b place said = all_built IsBuilt (both place said.first said.output) _ (λ _. tt)
+made_built v.Run b place said = all_built IsBuilt (needed place said.first) _ (λ _. tt)
+made_built v.Replay b place said = all_built IsBuilt (both place said.first said.second) _ (λ _. tt)
 made_built v.Go b place said = all_built IsBuilt (both place said.first said.output) _ (λ _. tt)
 made_built _ b place said = absurd b
 
@@ -55,14 +59,21 @@ record Named (w : List ℕ) : Type 0 where
   named : verb_named w ≡ Some verb
   built : IsBuiltVerb verb
 
+by_word : (w name : List ℕ) (verb : Verb) → IsBuiltVerb verb → verb_named name ≡ Some verb → bytes_eq w name ≡ true → Named w
+by_word w name verb b e h = record { verb = verb; named = ap verb_named ((bytes_eq-Decides w name).0 h) ∙ e; built = b }
+
+-- one of two tests, the second of which names a command
+either_word : (w name : List ℕ) (first : Bool) (verb : Verb) → IsBuiltVerb verb → verb_named name ≡ Some verb → (first ≡ true → Named w) → (first || bytes_eq w name) ≡ true → Named w
+either_word w name first verb b e f h = elim (or_cases first (bytes_eq w name) h) [ inl k ↦ f k | inr k ↦ by_word w name verb b e k ]
+
 named : (w : List ℕ) → is_built w ≡ true → Named w
-named w h = elim (or_cases (bytes_eq w (codes "check") || bytes_eq w (codes "emit")) (bytes_eq w (codes "go")) h) [
-  | inr k ↦ record { verb = v.Go; named = ap verb_named (((bytes_eq-Decides w (codes "go")).0 k)); built = tt }
-  | inl k ↦ elim (or_cases (bytes_eq w (codes "check")) (bytes_eq w (codes "emit")) k) [
-    | inl m ↦ record { verb = v.Check; named = ap verb_named (((bytes_eq-Decides w (codes "check")).0 m)); built = tt }
-    | inr m ↦ record { verb = v.Emit; named = ap verb_named (((bytes_eq-Decides w (codes "emit")).0 m)); built = tt }
-  ]
-]
+named w h =
+    either_word w (codes "go") _ v.Go tt refl
+    (either_word w (codes "replay") _ v.Replay tt refl
+    (either_word w (codes "run") _ v.Run tt refl
+    (either_word w (codes "emit") _ v.Emit tt refl
+    (by_word w (codes "check") v.Check tt refl))))
+    h
 
 told_built : (r told : Result Command WordError) → Tells r told → IfOk told IsBuilt → IfOk r IsBuilt
 told_built (Ok x) told h k = subst (λ t. IfOk t IsBuilt) h k

@@ -13,11 +13,20 @@ use Rattle.pl_words.specs.declared.command.Command.TheVariants as c
 use Rattle.pl_words.specs.declared.command.RunOpts.{RunOpts}
 use Rattle.pl_words.specs.declared.command.WordError.{WordError}
 use Rattle.pl_words.specs.declared.command.WordError.TheVariants as e
+use Rattle.c_syntax.specs.Tree.{Program}
+use Rattle.c_meaning.specs.declared.action.History.{History}
+use Rattle.c_meaning.specs.Events.{State}
+use Rattle.c_meaning.specs.Steps.{Replay}
 use Rattle.c_runner.specs.declared.run_end.RunEnd.{RunEnd}
-use Rattle.pl_top.specs.Telling.{Given, whole, long, Takes, Reads}
+use Rattle.c_runner.specs.declared.run_end.RunEnd.TheVariants as end
+use Rattle.c_history.specs.declared.replaying.Replayed.{Replayed}
+use Rattle.c_history.specs.declared.replaying.Replayed.TheVariants as replay
+use Rattle.c_history.specs.Replays.{Tells}
+use Rattle.c_history.proofs.ReplayLaws as history
+use Rattle.pl_top.specs.Telling.{whole, long, Takes, Reads}
 use Rattle.pl_top.specs.Input.{input_of}
-use Rattle.pl_top.specs.Judging.{Outcome, IsFileOf, IsAccepted, IsUndone, IsNotBuilt, Refuses, is_undone, is_not_built, Ends, ended, deadlock, bound, threads, JudgesCheck, checked, refused, JudgesEmit, emits, not_emitted, JudgesGo, goes, bad_input, not_run, JudgesRun, Judges}
-use Rattle.pl_top.specs.Calls.{ReadsFor, Answered, IsShort, IsExact, HasBadInput, IsExactRun, IsExactFor, Promised}
+use Rattle.pl_top.specs.Judging.{Outcome, IsFileOf, IsAccepted, IsUndone, IsNotBuilt, Refuses, is_undone, is_not_built, IsCOf, IsNoC, is_no_c, IsHistoryOf, IsNoHistory, is_no_history, is_no_input, IsSafeEnd, status_of, replayed, JudgesCheck, checked, not_checked, JudgesEmit, emits, not_emitted, JudgesGo, goes, no_numbers, not_gone, JudgesRun, runs, run_no_numbers, not_run, JudgesReplay, replays, replay_no_numbers, no_history, not_replayed, OfFile, too_long, taken, OfInput, input_too_long, read}
+use Rattle.pl_top.specs.Calls.{Answered, IsShort, IsShortText, IsExact, HasNoNumbers, IsExactGo, HasRun, IsExactRun, AreRead, Follows, Differs, AreShort, IsExactReplay, IsExactFor, Promised}
 
 -- a file has one function
 one_function : (bytes : List ℕ) (main other : FunDecl) → IsFileOf bytes main → IsFileOf bytes other → other ≡ main
@@ -59,20 +68,30 @@ too_long_exactly bytes more = record {
 
 check_exactly : (bytes : List ℕ) → IsShort bytes → (o : Outcome) → JudgesCheck bytes o → IsExact bytes o.status
 check_exactly bytes short _ (checked a) = accepted_exactly bytes short a
-check_exactly bytes short _ (refused o r) = refused_exactly bytes short o r
+check_exactly bytes short _ (not_checked o r) = refused_exactly bytes short o r
 
 emit_exactly : (bytes name : List ℕ) → IsShort bytes → (o : Outcome) → JudgesEmit bytes name o → IsExact bytes o.status
 emit_exactly bytes name short _ (emits program e) = accepted_exactly bytes short e.accepted
 emit_exactly bytes name short _ (not_emitted o r) = refused_exactly bytes short o r
 
--- ---- runs
+-- ---- `go`
 
 -- a run ends by a status of its own
-status_of_end : (n : ℕ) (end : RunEnd) (status : ℕ) (line : List ℕ) → Ends n end status line → (status ≢ 1) × (status ≢ 3) × (status ≢ 9)
-status_of_end n _ _ _ ended = ((λ e. omega (arith, e)), (λ e. omega (arith, e)), (λ e. omega (arith, e)))
-status_of_end n _ _ _ deadlock = ((λ e. omega (arith, e)), (λ e. omega (arith, e)), (λ e. omega (arith, e)))
-status_of_end n _ _ _ bound = ((λ e. omega (arith, e)), (λ e. omega (arith, e)), (λ e. omega (arith, e)))
-status_of_end n _ _ _ threads = ((λ e. omega (arith, e)), (λ e. omega (arith, e)), (λ e. omega (arith, e)))
+status_of_end : (e : RunEnd) → (status_of e ≢ 1) × (status_of e ≢ 3)
+status_of_end end.Ended = ((λ e. omega (arith, e)), (λ e. omega (arith, e)))
+status_of_end (end.Race s t cell) = ((λ e. omega (arith, e)), (λ e. omega (arith, e)))
+status_of_end (end.CFault t f) = ((λ e. omega (arith, e)), (λ e. omega (arith, e)))
+status_of_end end.Deadlock = ((λ e. omega (arith, e)), (λ e. omega (arith, e)))
+status_of_end end.ThreadLimit = ((λ e. omega (arith, e)), (λ e. omega (arith, e)))
+status_of_end end.StepBound = ((λ e. omega (arith, e)), (λ e. omega (arith, e)))
+
+safe_status : (e : RunEnd) → IsSafeEnd e → status_of e ≢ 9
+safe_status end.Ended safe = λ e. omega (arith, e)
+safe_status (end.Race s t cell) safe = absurd safe
+safe_status (end.CFault t f) safe = absurd safe
+safe_status end.Deadlock safe = λ e. omega (arith, e)
+safe_status end.ThreadLimit safe = λ e. omega (arith, e)
+safe_status end.StepBound safe = λ e. omega (arith, e)
 
 -- and a file that is refused by none of these
 never_runs : (s : ℕ) → s ≢ 0 → s ≢ 7 → s ≢ 8 → (s ≡ 0) ⊎ ((s ≡ 7) ⊎ (s ≡ 8)) → ⊥
@@ -81,64 +100,173 @@ never_runs s a b c (inr (inl h)) = b h
 never_runs s a b c (inr (inr h)) = c h
 
 -- an input has numbers or a line that is refused, and not both
-never_bad : {A B : Type 0} (r : Result A B) (a : A) (b : B) → r ≡ Ok a → r ≡ Err b → ⊥
+pub never_bad : {A B : Type 0} (r : Result A B) (a : A) (b : B) → r ≡ Ok a → r ≡ Err b → ⊥
 never_bad r a b h k = cc
 
-not_refused : (bytes input : List ℕ) → IsAccepted bytes → (numbers : List ℤ) → input_of input ≡ Ok numbers → IsNotBuilt bytes ⊎ HasBadInput bytes input → ⊥
+-- one of two is too long, or neither
+never_short : (n m a b : ℕ) → (n < a) ⊎ (m < b) → a ≤ n → b ≤ m → ⊥
+never_short n m a b (inl l) h k = omega (arith, h, l)
+never_short n m a b (inr l) h k = omega (arith, k, l)
+
+not_refused : (bytes input : List ℕ) → IsAccepted bytes → (numbers : List ℤ) → input_of input ≡ Ok numbers → IsNotBuilt bytes ⊎ (IsAccepted bytes × HasNoNumbers input) → ⊥
 not_refused bytes input a numbers is (inl n) = n.none (program_of a.main) a.file.file
 not_refused bytes input a numbers is (inr h) = never_bad (input_of input) numbers h.1.0 is h.1.1
 
-not_undone : (bytes input : List ℕ) (place : Pos) (duty : Duty) → IsUndone bytes place duty → IsNotBuilt bytes ⊎ HasBadInput bytes input → ⊥
+not_undone : (bytes input : List ℕ) (place : Pos) (duty : Duty) → IsUndone bytes place duty → IsNotBuilt bytes ⊎ (IsAccepted bytes × HasNoNumbers input) → ⊥
 not_undone bytes input place duty u (inl n) = n.none (program_of u.main) u.file.file
 not_undone bytes input place duty u (inr h) = never_both bytes h.0 place duty u
 
-run_exactly : (bytes name : List ℕ) (opts : RunOpts) (input : List ℕ) → IsShort bytes → IsShort input → (o : Outcome) → JudgesGo bytes name opts input o → IsExactRun bytes input o.status
-run_exactly bytes name opts input short few _ (goes program e numbers is r status line ends) =
-    let not = status_of_end _ _ status line ends in
+go_exactly : (bytes name : List ℕ) (opts : RunOpts) (input : List ℕ) → IsShort bytes → IsShort input → (o : Outcome) → JudgesGo bytes name opts input o → IsExactGo bytes input o.status
+go_exactly bytes name opts input short few _ (goes program e numbers is r safe) =
+    let not = status_of_end r.ends in
     record {
       runs = λ h. e.accepted;
       undone = ((λ h. absurd (not.0 h)), (λ h. absurd (never_both bytes e.accepted h.2.0 h.2.1 h.2.2)));
       refused = ((λ h. absurd (not.1 h)), (λ h. absurd (not_refused bytes input e.accepted numbers is h.2)));
-      never = not.2;
+      too_long = λ h. absurd (never_short 1048576 1048576 (length bytes) (length input) h short few);
+      never = safe_status r.ends safe;
     }
-run_exactly bytes name opts input short few _ (bad_input a n is) = record {
+go_exactly bytes name opts input short few _ (no_numbers a _ (is_no_input n is)) = record {
   runs = λ h. a;
   undone = ((λ h. absurd (omega (arith, h))), (λ h. absurd (never_both bytes a h.2.0 h.2.1 h.2.2)));
   refused = ((λ h. (short, few, inr (a, (n, is)))), (λ h. refl));
+  too_long = λ h. absurd (never_short 1048576 1048576 (length bytes) (length input) h short few);
   never = λ e. omega (arith, e);
 }
-run_exactly bytes name opts input short few _ (not_run _ (is_undone place duty u)) = record {
+go_exactly bytes name opts input short few _ (not_gone _ (is_undone place duty u)) = record {
   runs = λ h. absurd (never_runs 1 (λ e. omega (arith, e)) (λ e. omega (arith, e)) (λ e. omega (arith, e)) h);
   undone = ((λ h. (short, few, (place, duty, u))), (λ h. refl));
   refused = ((λ h. absurd (omega (arith, h))), (λ h. absurd (not_undone bytes input place duty u h.2)));
+  too_long = λ h. absurd (never_short 1048576 1048576 (length bytes) (length input) h short few);
   never = λ e. omega (arith, e);
 }
-run_exactly bytes name opts input short few _ (not_run _ (is_not_built n)) = record {
+go_exactly bytes name opts input short few _ (not_gone _ (is_not_built n)) = record {
   runs = λ h. absurd (never_runs 3 (λ e. omega (arith, e)) (λ e. omega (arith, e)) (λ e. omega (arith, e)) h);
   undone = ((λ h. absurd (omega (arith, h))), (λ h. absurd (n.none (program_of h.2.2.main) h.2.2.file.file)));
   refused = ((λ h. (short, few, inl n)), (λ h. refl));
+  too_long = λ h. absurd (never_short 1048576 1048576 (length bytes) (length input) h short few);
   never = λ e. omega (arith, e);
 }
 
 -- where more was given than may be, nothing was judged
-too_long_run : (bytes input : List ℕ) → (1048576 < length bytes) ⊎ (1048576 < length input) → IsExactRun bytes input 10
-too_long_run bytes input (inl more) = record {
+long_go : (bytes input : List ℕ) → (1048576 < length bytes) ⊎ (1048576 < length input) → IsExactGo bytes input 10
+long_go bytes input more = record {
   runs = λ h. absurd (never_runs 10 (λ e. omega (arith, e)) (λ e. omega (arith, e)) (λ e. omega (arith, e)) h);
-  undone = ((λ h. absurd (omega (arith, h))), (λ h. absurd (omega (arith, h.0, more))));
-  refused = ((λ h. absurd (omega (arith, h))), (λ h. absurd (omega (arith, h.0, more))));
+  undone = ((λ h. absurd (omega (arith, h))), (λ h. absurd (never_short 1048576 1048576 (length bytes) (length input) more h.0 h.1)));
+  refused = ((λ h. absurd (omega (arith, h))), (λ h. absurd (never_short 1048576 1048576 (length bytes) (length input) more h.0 h.1)));
+  too_long = λ h. refl;
   never = λ e. omega (arith, e);
 }
-too_long_run bytes input (inr more) = record {
-  runs = λ h. absurd (never_runs 10 (λ e. omega (arith, e)) (λ e. omega (arith, e)) (λ e. omega (arith, e)) h);
-  undone = ((λ h. absurd (omega (arith, h))), (λ h. absurd (omega (arith, h.1, more))));
-  refused = ((λ h. absurd (omega (arith, h))), (λ h. absurd (omega (arith, h.1, more))));
-  never = λ e. omega (arith, e);
+
+-- ---- `run`
+
+reads_c : (bytes input : List ℕ) (program : Program) (numbers : List ℤ) → IsCOf bytes program → input_of input ≡ Ok numbers → IsNoC bytes ⊎ HasNoNumbers input → ⊥
+reads_c bytes input program numbers is are (inl none) = none program is.text
+reads_c bytes input program numbers is are (inr h) = never_bad (input_of input) numbers h.0 are h.1
+
+run_exactly : (bytes : List ℕ) (opts : RunOpts) (input : List ℕ) → IsShortText bytes → IsShort input → (o : Outcome) → JudgesRun bytes opts input o → IsExactRun bytes opts input o.status
+run_exactly bytes opts input short few _ (runs program is numbers are r) = record {
+  refused = ((λ h. absurd ((status_of_end r.ends).1 h)), (λ h. absurd (reads_c bytes input program numbers is are h.2)));
+  too_long = λ h. absurd (never_short 268435456 1048576 (length bytes) (length input) h short few);
+  runs = λ _ _ _. record { program = program; is = is; numbers = numbers; are = are; run = r; status_is = refl };
 }
+run_exactly bytes opts input short few _ (run_no_numbers program is _ (is_no_input n bad)) = record {
+  refused = ((λ h. (short, few, inr (n, bad))), (λ h. refl));
+  too_long = λ h. absurd (never_short 268435456 1048576 (length bytes) (length input) h short few);
+  runs = λ _ _ not. absurd (not refl);
+}
+run_exactly bytes opts input short few _ (not_run _ (is_no_c none n at)) = record {
+  refused = ((λ h. (short, few, inl none)), (λ h. refl));
+  too_long = λ h. absurd (never_short 268435456 1048576 (length bytes) (length input) h short few);
+  runs = λ _ _ not. absurd (not refl);
+}
+
+long_run : (bytes : List ℕ) (opts : RunOpts) (input : List ℕ) → (268435456 < length bytes) ⊎ (1048576 < length input) → IsExactRun bytes opts input 10
+long_run bytes opts input more = record {
+  refused = ((λ h. absurd (omega (arith, h))), (λ h. absurd (never_short 268435456 1048576 (length bytes) (length input) more h.0 h.1)));
+  too_long = λ h. refl;
+  runs = λ short few _. absurd (never_short 268435456 1048576 (length bytes) (length input) more short few);
+}
+
+-- ---- `replay`
+
+-- a replay of the same
+pub replay_at : (p q : Program) (ns ms : List ℤ) (h g : History) (last : State) → q ≡ p → ms ≡ ns → g ≡ h → Replay q ms g.events last → Replay p ns h.events last
+replay_at p q ns ms h g last e f k r =
+    subst (λ (x : Program). Replay x ns h.events last) e (subst (λ (x : List ℤ). Replay q x h.events last) f (subst (λ (x : History). Replay q ms x.events last) k r))
+
+pub same_numbers : {B : Type 0} (r : Result (List ℤ) B) (a b : List ℤ) → r ≡ Ok a → r ≡ Ok b → b ≡ a
+same_numbers r a b h k = cc
+
+-- what is read in two ways is the same
+read_at : (bytes events input : List ℕ) (p q : Program) (ns ms : List ℤ) (h g : History) (last : State) → AreRead bytes events input p h ns → AreRead bytes events input q g ms → Replay q ms g.events last → Replay p ns h.events last
+read_at bytes events input p q ns ms h g last a b r = replay_at p q ns ms h g last (a.is.only q b.is.text) (same_numbers (input_of input) ns ms a.are b.are) (a.history_is.only g b.history_is.text) r
+
+-- the three are read, or one of them isn't
+never_unread : (bytes events input : List ℕ) (p : Program) (h : History) (ns : List ℤ) → AreRead bytes events input p h ns → IsNoC bytes ⊎ (IsNoHistory events ⊎ HasNoNumbers input) → ⊥
+never_unread bytes events input p h ns a (inl none) = none p a.is.text
+never_unread bytes events input p h ns a (inr (inl none)) = none h a.history_is.text
+never_unread bytes events input p h ns a (inr (inr bad)) = never_bad (input_of input) ns bad.0 a.are bad.1
+
+-- one of the three is too long
+abbrev IsLong : List ℕ → List ℕ → List ℕ → Type 0
+IsLong bytes events input = (268435456 < length bytes) ⊎ ((268435456 < length events) ⊎ (1048576 < length input))
+
+short_or_long : (bytes events input : List ℕ) → AreShort bytes events input → IsLong bytes events input → ⊥
+short_or_long bytes events input s (inl l) = omega (arith, s.0, l)
+short_or_long bytes events input s (inr (inl l)) = omega (arith, s.1, l)
+short_or_long bytes events input s (inr (inr l)) = omega (arith, s.2, l)
+
+answer_exactly : (bytes events input : List ℕ) → AreShort bytes events input → (p : Program) (h : History) (ns : List ℤ) → AreRead bytes events input p h ns → (answer : Replayed) → Tells p ns h.events answer → IsExactReplay bytes events input (replayed (length h.events) answer).status
+answer_exactly bytes events input short p h ns a replay.Follows t = record {
+  follows = ((λ e. (short, (p, h, ns, a, t))), (λ k. refl));
+  differs = ((λ e. absurd (omega (arith, e))), (λ k. absurd (k.1.4 t.0 (read_at bytes events input k.1.0 p k.1.2 ns k.1.1 h t.0 k.1.3 a t.1))));
+  refused = ((λ e. absurd (omega (arith, e))), (λ k. absurd (never_unread bytes events input p h ns a k.1)));
+  too_long = ((λ e. absurd (omega (arith, e))), (λ k. absurd (short_or_long bytes events input short k)));
+}
+answer_exactly bytes events input short p h ns a (replay.Differs k expected found) t = record {
+  follows = ((λ e. absurd (omega (arith, e))), (λ m. absurd (history.not_both p ns h.events k expected found m.1.4.0 t (read_at bytes events input p m.1.0 ns m.1.2 h m.1.1 m.1.4.0 a m.1.3 m.1.4.1))));
+  differs = ((λ e. (short, (p, h, ns, a, (λ last r. history.not_both p ns h.events k expected found last t r)))), (λ m. refl));
+  refused = ((λ e. absurd (omega (arith, e))), (λ m. absurd (never_unread bytes events input p h ns a m.1)));
+  too_long = ((λ e. absurd (omega (arith, e))), (λ m. absurd (short_or_long bytes events input short m)));
+}
+
+-- one of the three isn't read
+unread_exactly : (bytes events input : List ℕ) → AreShort bytes events input → IsNoC bytes ⊎ (IsNoHistory events ⊎ HasNoNumbers input) → IsExactReplay bytes events input 3
+unread_exactly bytes events input short bad = record {
+  follows = ((λ e. absurd (omega (arith, e))), (λ m. absurd (never_unread bytes events input m.1.0 m.1.1 m.1.2 m.1.3 bad)));
+  differs = ((λ e. absurd (omega (arith, e))), (λ m. absurd (never_unread bytes events input m.1.0 m.1.1 m.1.2 m.1.3 bad)));
+  refused = ((λ e. (short, bad)), (λ m. refl));
+  too_long = ((λ e. absurd (omega (arith, e))), (λ m. absurd (short_or_long bytes events input short m)));
+}
+
+long_exactly : (bytes events input : List ℕ) → IsLong bytes events input → IsExactReplay bytes events input 10
+long_exactly bytes events input more = record {
+  follows = ((λ e. absurd (omega (arith, e))), (λ m. absurd (short_or_long bytes events input m.0 more)));
+  differs = ((λ e. absurd (omega (arith, e))), (λ m. absurd (short_or_long bytes events input m.0 more)));
+  refused = ((λ e. absurd (omega (arith, e))), (λ m. absurd (short_or_long bytes events input m.0 more)));
+  too_long = ((λ e. more), (λ m. refl));
+}
+
+replay_exactly : (bytes events input : List ℕ) → AreShort bytes events input → (o : Outcome) → JudgesReplay bytes events input o → IsExactReplay bytes events input o.status
+replay_exactly bytes events input short _ (replays p is h history_is ns are answer t) = answer_exactly bytes events input short p h ns (record { is = is; history_is = history_is; are = are }) answer t
+replay_exactly bytes events input short _ (replay_no_numbers p is h history_is _ (is_no_input n bad)) = unread_exactly bytes events input short (inr (inr (n, bad)))
+replay_exactly bytes events input short _ (no_history p is _ (is_no_history none n at)) = unread_exactly bytes events input short (inr (inl none))
+replay_exactly bytes events input short _ (not_replayed _ (is_no_c none n at)) = unread_exactly bytes events input short (inl none)
 
 -- ---- what was given
 
 same_bytes : {a b : List ℕ} (o : Option (List ℕ)) → o ≡ Some a → o ≡ Some b → a ≡ b
 same_bytes o h k = cc
+
+-- of a file that is told
+told_file : (files : Files) (name bytes : List ℕ) (most : ℕ) (told left : Option (List ℕ)) (Judges : List ℕ → Outcome → Type 0) (o : Outcome) → OfFile (Some files) name most told left Judges o → file_in name files ≡ Some bytes → (P : ℕ → Type 0) → (most < length bytes → P 10) → (length bytes ≤ most → (said : Outcome) → Judges bytes said → P said.status) → P o.status
+told_file files name bytes most told left Judges _ (too_long takes same) is P f g =
+    let e : takes.0 ≡ bytes = same_bytes (file_in name files) takes.1 is in
+    f (subst (λ (b : List ℕ). most < length b) e takes.2)
+told_file files name bytes most told left Judges _ (taken held takes o j) is P f g =
+    let e : held ≡ bytes = same_bytes (file_in name files) takes.0 is in
+    g (subst (λ (b : List ℕ). length b ≤ most) e takes.1) o (subst (λ b. Judges b o) e j)
 
 -- an input that was read whole, and one that was longer
 whole_input : (input held : List ℕ) (left : Option (List ℕ)) → Reads (Some input) left 1048576 (whole held) → held ≡ input
@@ -149,50 +277,37 @@ long_input : (input : List ℕ) (left : Option (List ℕ)) → Reads (Some input
 long_input input None r = absurd r.1
 long_input input (Some rest) r = omega (arith, ap length r.1, length-append r.0 rest, r.2)
 
-given_check : (files : Files) (name bytes : List ℕ) (jobs : ℕ) (given input : Given) (o : Outcome) → Takes (Some files) name 1048576 given → Judges given (c.Check name jobs) input o → file_in name files ≡ Some bytes → IsExact bytes o.status
-given_check files name bytes jobs (whole held) input o takes judged is =
-    let same : held ≡ bytes = same_bytes (file_in name files) takes.0 is in
-    check_exactly bytes (subst (λ (b : List ℕ). length b ≤ 1048576) same takes.1) o (subst (λ b. JudgesCheck b o) same judged)
-given_check files name bytes jobs long input o takes judged is =
-    let same : takes.0 ≡ bytes = same_bytes (file_in name files) takes.1 is in
-    subst (λ (x : Outcome). IsExact bytes x.status) (sym judged) (too_long_exactly bytes (subst (λ (b : List ℕ). 1048576 < length b) same takes.2))
-
-given_emit : (files : Files) (name bytes text : List ℕ) (given input : Given) (o : Outcome) → Takes (Some files) name 1048576 given → Judges given (c.Emit name text) input o → file_in name files ≡ Some bytes → IsExact bytes o.status
-given_emit files name bytes text (whole held) input o takes judged is =
-    let same : held ≡ bytes = same_bytes (file_in name files) takes.0 is in
-    emit_exactly bytes text (subst (λ (b : List ℕ). length b ≤ 1048576) same takes.1) o (subst (λ b. JudgesEmit b text o) same judged)
-given_emit files name bytes text long input o takes judged is =
-    let same : takes.0 ≡ bytes = same_bytes (file_in name files) takes.1 is in
-    subst (λ (x : Outcome). IsExact bytes x.status) (sym judged) (too_long_exactly bytes (subst (λ (b : List ℕ). 1048576 < length b) same takes.2))
-
-read_run : (bytes name : List ℕ) (opts : RunOpts) (input : List ℕ) (left : Option (List ℕ)) (given : Given) (o : Outcome) → IsShort bytes → Reads (Some input) left 1048576 given → JudgesRun given bytes name opts o → IsExactRun bytes input o.status
-read_run bytes name opts input left (whole held) o short reads judged =
-    let same : held ≡ input = whole_input input held left reads in
-    run_exactly bytes name opts input short (subst (λ (b : List ℕ). length b ≤ 1048576) same reads.2) o (subst (λ b. JudgesGo bytes name opts b o) same judged)
-read_run bytes name opts input left long o short reads judged =
-    subst (λ (x : Outcome). IsExactRun bytes input x.status) (sym judged) (too_long_run bytes input (inr (long_input input left reads)))
-
-given_go : (files : Files) (source bytes name : List ℕ) (opts : RunOpts) (told : List ℕ) (left : Option (List ℕ)) (given input : Given) (o : Outcome) → Takes (Some files) source 1048576 given → ReadsFor given (c.Go source name opts) (Some told) left input → Judges given (c.Go source name opts) input o → file_in source files ≡ Some bytes → IsExactRun bytes told o.status
-given_go files source bytes name opts told left (whole held) input o takes reads judged is =
-    let same : held ≡ bytes = same_bytes (file_in source files) takes.0 is in
-    subst (λ b. IsExactRun b told o.status) same (read_run held name opts told left input o takes.1 reads judged)
-given_go files source bytes name opts told left long input o takes reads judged is =
-    let same : takes.0 ≡ bytes = same_bytes (file_in source files) takes.1 is in
-    subst (λ (x : Outcome). IsExactRun bytes told x.status) (sym judged) (too_long_run bytes told (inl (subst (λ (b : List ℕ). 1048576 < length b) same takes.2)))
+told_input : (input : List ℕ) (left : Option (List ℕ)) (Judges : List ℕ → Outcome → Type 0) (o : Outcome) → OfInput (Some input) left Judges o → (P : ℕ → Type 0) → (1048576 < length input → P 10) → (length input ≤ 1048576 → (said : Outcome) → Judges input said → P said.status) → P o.status
+told_input input left Judges _ (input_too_long reads) P f g = f (long_input input left reads)
+told_input input left Judges _ (read held reads o j) P f g =
+    let e : held ≡ input = whole_input input held left reads in
+    g (subst (λ (b : List ℕ). length b ≤ 1048576) e reads.2) o (subst (λ b. Judges b o) e j)
 
 -- ---- an answered command has its status by its cause
 
 pub answered_exactly : (command : Command) (files files' : Option Files) (told left out out' : Option (List ℕ)) (status : ℕ) → Answered command files files' told left out out' status → IsExactFor (Ok command) files told status
 answered_exactly (c.Check source jobs) (Some files) files' told left out out' status a =
-    λ bytes is. subst (IsExact bytes) a.status_is (given_check files source bytes jobs a.judged.file a.judged.input a.outcome a.judged.takes a.judged.judged is)
+    λ bytes is. subst (IsExact bytes) a.status_is (told_file files source bytes _ told left _ a.outcome a.judged is (IsExact bytes) (too_long_exactly bytes) (λ short said j. check_exactly bytes short said j.1))
 answered_exactly (c.Emit source name) (Some files) files' told left out out' status a =
-    λ bytes is. subst (IsExact bytes) a.status_is (given_emit files source bytes name a.judged.file a.judged.input a.outcome a.judged.takes a.judged.judged is)
-answered_exactly (c.Go source name opts) (Some files) files' (Some told) left out out' status a =
-    λ bytes is. subst (IsExactRun bytes told) a.status_is (given_go files source bytes name opts told left a.judged.file a.judged.input a.outcome a.judged.takes a.judged.reads a.judged.judged is)
+    λ bytes is. subst (IsExact bytes) a.status_is (told_file files source bytes _ told left _ a.outcome a.judged is (IsExact bytes) (too_long_exactly bytes) (λ short said j. emit_exactly bytes name short said j.1))
+answered_exactly (c.Go source name opts) (Some files) files' (Some input) left out out' status a =
+    λ bytes is. subst (IsExactGo bytes input) a.status_is (told_file files source bytes _ (Some input) left _ a.outcome a.judged is (IsExactGo bytes input) (λ more. long_go bytes input (inl more)) (λ short said j.
+    told_input input left _ said j (IsExactGo bytes input) (λ more. long_go bytes input (inr more)) (λ few. go_exactly bytes name opts input short few)))
+answered_exactly (c.Run name opts) (Some files) files' (Some input) left out out' status a =
+    λ bytes is. subst (IsExactRun bytes opts input) a.status_is (told_file files name bytes _ (Some input) left _ a.outcome a.judged is (IsExactRun bytes opts input) (λ more. long_run bytes opts input (inl more)) (λ short said j.
+    told_input input left _ said j (IsExactRun bytes opts input) (λ more. long_run bytes opts input (inr more)) (λ few. run_exactly bytes opts input short few)))
+answered_exactly (c.Replay name history) (Some files) files' (Some input) left out out' status a =
+    λ bytes events is also. subst (IsExactReplay bytes events input) a.status_is (told_file files name bytes _ (Some input) left _ a.outcome a.judged is (IsExactReplay bytes events input) (λ more. long_exactly bytes events input (inl more)) (λ short said j.
+    told_file files history events _ (Some input) left _ said j also (IsExactReplay bytes events input) (λ more. long_exactly bytes events input (inr (inl more))) (λ brief again k.
+    told_input input left _ again k (IsExactReplay bytes events input) (λ more. long_exactly bytes events input (inr (inr more))) (λ few. replay_exactly bytes events input (short, brief, few)))))
 answered_exactly (c.Check source jobs) None files' told left out out' status a = tt
 answered_exactly (c.Emit source name) None files' told left out out' status a = tt
 answered_exactly (c.Go source name opts) None files' told left out out' status a = tt
 answered_exactly (c.Go source name opts) (Some files) files' None left out out' status a = tt
+answered_exactly (c.Run name opts) None files' told left out out' status a = tt
+answered_exactly (c.Run name opts) (Some files) files' None left out out' status a = tt
+answered_exactly (c.Replay name history) None files' told left out out' status a = tt
+answered_exactly (c.Replay name history) (Some files) files' None left out out' status a = tt
 answered_exactly _ _ files' told left out out' status a = tt
 
 pub promised_exactly : (asked : Result Command WordError) (files files' : Option Files) (told left out out' : Option (List ℕ)) (status : ℕ) → Promised asked files files' told left out out' status → IsExactFor asked files told status

@@ -1,6 +1,5 @@
 -- From the walk's answer to what is found in a file.
 use Rattle.std.proofs.Common.{◌≡◌, ℕ, List, [], ◌∷◌, Some, None, slice_get, sym, ap, ◌∙◌, subst}
-use Rattle.std.specs.Prelude.{Result, Ok, Err, IfOk}
 use Rattle.pl_base.specs.declared.pos.Pos.{Pos}
 use Rattle.pl_syntax.specs.Tree.{FunDecl, Decl, Fun, Program}
 use Rattle.pl_syntax.specs.Sorts.{IsTyped, IsMain}
@@ -12,15 +11,8 @@ use Rattle.pl_walk.proofs.WalkLaws.{all_done_derives}
 use Rattle.pl_erase.specs.Emitted.{program_of}
 use Rattle.pl_top.specs.Lines.{not_built, duty_line}
 use Rattle.pl_top.specs.Judging.{says, IsFileOf, Refuses, is_undone, is_not_built}
-use Rattle.pl_top.specs.Checks.{said, Finds, AcceptedAs, IsNotBuiltSaid, IsChecked}
-use Rattle.pl_top.specs.declared.judge.Checked.{Checked}
-use Rattle.pl_top.specs.declared.judge.Checked.TheVariants.{Accepted, Refused}
+use Rattle.pl_top.specs.Checks.{said, Finds, AcceptedAs}
 use Rattle.pl_top.specs.declared.judge.Answer.{Answer}
-
--- what follows of each Ok follows of this one
-pub if_ok_from : {T E : Type 0} (r : Result T E) (P Q : T → Type 0) → ((x : T) → P x → Q x) → IfOk r P → IfOk r Q
-if_ok_from (Ok x) P Q f h = f x h
-if_ok_from (Err e) P Q f h = tt
 
 pub first_of : (decls : List Decl) (main : FunDecl) → decls ≡ Fun main ∷ [] → slice_get decls 0 ≡ Some (Fun main)
 first_of decls main e = ap (λ l. slice_get l 0) e
@@ -63,7 +55,3 @@ none_built bytes none a h = subst (Refuses bytes) (sym h) (is_not_built (record 
 -- what is said of a duty that is left undone
 pub said_undone : (main : FunDecl) (place : Pos) (duty : Duty) → Undone main place duty → (text : List ℕ) → text ≡ duty_line place duty → (p : Pos) × (d : Duty) × Undone main p d × (says 1 text ≡ says 1 (duty_line p d))
 said_undone main place duty undone text h = (place, duty, undone, ap (says 1) h)
-
-pub not_built_is : (bytes : List ℕ) → ((p : Program) → IsFile bytes p → ⊥) → (r : Checked) → IsNotBuiltSaid r → IsChecked bytes r
-not_built_is bytes none (Accepted typed) h = absurd h
-not_built_is bytes none (Refused a) h = none_built bytes none a h

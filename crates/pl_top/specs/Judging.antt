@@ -1,6 +1,7 @@
 -- What a command does where nothing outside fails and memory is enough.
-use Rattle.std.specs.Prelude.{◌≡◌, ℕ, ℤ, List, [], ◌∷◌, ◌++◌, Option, Some, None, Ok, Err, length}
+use Rattle.std.specs.Prelude.{◌≡◌, ℕ, ◌+◌, ℤ, List, [], ◌∷◌, ◌++◌, Option, Some, None, Ok, Err, length}
 use Rattle.pl_base.specs.declared.pos.Pos.{Pos}
+use Rattle.pl_base.specs.Outside.{Files}
 use Rattle.pl_syntax.specs.Tree.{FunDecl, Program}
 use Rattle.pl_syntax.specs.Grammar.{IsFile}
 use Rattle.pl_walk.specs.declared.walk.Duty.{Duty}
@@ -11,16 +12,24 @@ use Rattle.pl_laws.specs.SameRuns.{SameRuns}
 use Rattle.pl_words.specs.declared.command.Command.{Command}
 use Rattle.pl_words.specs.declared.command.Command.TheVariants as c
 use Rattle.pl_words.specs.declared.command.RunOpts.{RunOpts}
+use Rattle.pl_lexer.specs.Proper.{IsName}
 use Rattle.c_syntax.specs.Tree as tree
 use Rattle.c_syntax.specs.Text.{program_text}
-use Rattle.c_syntax.specs.Fragment.{IsFragment}
+use Rattle.c_syntax.specs.Fragment.{IsFragment, IsText}
+use Rattle.c_reader.specs.Reads.{IsFirstWrong}
 use Rattle.c_meaning.specs.declared.action.Event.{Event}
+use Rattle.c_meaning.specs.declared.action.History.{History}
 use Rattle.c_runner.specs.declared.run_end.RunEnd.{RunEnd}
 use Rattle.c_runner.specs.declared.run_end.RunEnd.TheVariants as end
 use Rattle.c_runner.specs.Runs.{IsRun, IsRuled}
 use Rattle.c_history.specs.Text.{history_text}
-use Rattle.pl_top.specs.Telling.{Given, whole, long, Put}
-use Rattle.pl_top.specs.Lines.{accepted, not_built, limit_file, limit_input, limit_threads, duty_line, input_line, deadlock_line, bound_line, outputs_text}
+use Rattle.c_history.specs.Bounds.{IsWithin}
+use Rattle.c_history.specs.Lines.{IsTextOf, IsRefusedLine}
+use Rattle.c_history.specs.Replays.{Tells}
+use Rattle.c_history.specs.declared.replaying.Replayed.{Replayed}
+use Rattle.c_history.specs.declared.replaying.Replayed.TheVariants as replay
+use Rattle.pl_top.specs.Telling.{whole, long, Takes, Reads, Put}
+use Rattle.pl_top.specs.Lines.{accepted, not_built, limit_file, limit_input, duty_line, c_line, history_line, input_line, outputs_text, end_line, follows_line, differs_line}
 use Rattle.pl_top.specs.Input.{input_of}
 
 -- the status of a command, the files that it puts, in order, and the text that it then prints
@@ -78,7 +87,44 @@ put name bytes = record { name = name; bytes = bytes }
 abbrev pub put_text : List ℕ → tree.Program → Put
 put_text name program = put name (program_text program)
 
+-- ---- texts of C, histories and inputs
+
+-- the bytes are the text of this program of the C fragment, and of no other
+pub record IsCOf (bytes : List ℕ) (program : tree.Program) : Type 0 where
+  pub text : IsText IsName bytes program
+  pub only : (other : tree.Program) → IsText IsName bytes other → other ≡ program
+
+-- the bytes are no text of the C fragment
+abbrev pub IsNoC : List ℕ → Type 0
+IsNoC bytes = (program : tree.Program) → IsText IsName bytes program → ⊥
+
+-- a text of C is refused at its first wrong byte
+pub data RefusesC (bytes : List ℕ) : Outcome → Type 0 where
+  is_no_c : IsNoC bytes → (n : ℕ) → IsFirstWrong bytes n → RefusesC bytes (says 3 (c_line n))
+
+-- the bytes are the text of this history, and of no other
+pub record IsHistoryOf (bytes : List ℕ) (history : History) : Type 0 where
+  pub text : IsTextOf history bytes
+  pub only : (other : History) → IsTextOf other bytes → other ≡ history
+
+-- the bytes are no text of a history
+abbrev pub IsNoHistory : List ℕ → Type 0
+IsNoHistory bytes = (history : History) → IsTextOf history bytes → ⊥
+
+-- the text of a history is refused at its first line that no history has
+pub data RefusesHistory (bytes : List ℕ) : Outcome → Type 0 where
+  is_no_history : IsNoHistory bytes → (n : ℕ) → IsRefusedLine bytes n → RefusesHistory bytes (says 3 (history_line n))
+
+-- the text of an input is refused at its first line that is no number
+pub data RefusesInput (bytes : List ℕ) : Outcome → Type 0 where
+  is_no_input : (n : ℕ) → input_of bytes ≡ Err n → RefusesInput bytes (says 3 (input_line n))
+
 -- ---- runs
+
+-- a history that is put is within the bounds of histories: it is read again
+abbrev pub IsReadable : Option (List ℕ) → List Event → Type 0
+IsReadable None events = Unit {0}
+IsReadable (Some name) events = IsWithin (record { events = events })
 
 -- a run of the program on these numbers
 pub record Ran (program : tree.Program) (numbers : List ℤ) (opts : RunOpts) : Type 0 where
@@ -87,55 +133,100 @@ pub record Ran (program : tree.Program) (numbers : List ℤ) (opts : RunOpts) : 
   pub run : IsRun program numbers opts.steps events ends
   -- one worker does the events by the rule for the next thread
   pub ruled : opts.workers ≡ 1 → IsRuled program numbers opts.steps events
+  pub readable : IsReadable opts.history events
 
--- the status and the line of a run that ends so after so many events. A program that was accepted ends neither by a
--- race nor by a fault
-pub data Ends (events : ℕ) : RunEnd → ℕ → List ℕ → Type 0 where
-  ended : Ends events end.Ended 0 []
-  deadlock : Ends events end.Deadlock 7 (deadlock_line events)
-  bound : Ends events end.StepBound 8 (bound_line events)
-  threads : Ends events end.ThreadLimit 10 limit_threads
+-- an end that is neither a race nor a fault
+abbrev pub IsSafeEnd : RunEnd → Type 0
+IsSafeEnd (end.Race s t cell) = ⊥
+IsSafeEnd (end.CFault t f) = ⊥
+IsSafeEnd _ = Unit {0}
+
+abbrev pub status_of : RunEnd → ℕ
+status_of end.Ended = 0
+status_of (end.Race s t cell) = 9
+status_of (end.CFault t f) = 9
+status_of end.Deadlock = 7
+status_of end.ThreadLimit = 10
+status_of end.StepBound = 8
 
 -- the history is put into its file, if there is one
 abbrev pub put_history : Option (List ℕ) → List Event → List Put
 put_history None events = []
 put_history (Some name) events = put name (history_text (record { events = events })) ∷ []
 
--- a run's outputs are printed, one a line, and then the line of its end
-abbrev pub ran : {program : tree.Program} {numbers : List ℤ} {opts : RunOpts} → List ℕ → Ran program numbers opts → ℕ → List ℕ → Outcome
-ran {program} {numbers} {opts} name r status line = record {
-  status = status;
-  puts = put_text name program ∷ put_history opts.history r.events;
-  text = outputs_text r.run.last.world.outputs ++ line;
+-- a run's history is put, and its outputs are printed, one a line, and then the line of its end
+abbrev pub ran : {program : tree.Program} {numbers : List ℤ} {opts : RunOpts} → Ran program numbers opts → Outcome
+ran {program} {numbers} {opts} r = record {
+  status = status_of r.ends;
+  puts = put_history opts.history r.events;
+  text = outputs_text r.run.last.world.outputs ++ end_line (length r.events) r.ends;
 }
 
--- ---- commands
+-- the same with a file that is put before
+abbrev pub behind : Put → Outcome → Outcome
+behind p o = record o { puts = p ∷ o.puts }
+
+-- what is said of a replay of so many events
+abbrev pub replayed : ℕ → Replayed → Outcome
+replayed n replay.Follows = says 0 (follows_line n)
+replayed n (replay.Differs k expected found) = says 1 (differs_line k expected found)
+
+-- ---- commands, by what they were given
 
 -- `check`
 pub data JudgesCheck (bytes : List ℕ) : Outcome → Type 0 where
   checked : IsAccepted bytes → JudgesCheck bytes (says 0 accepted)
-  refused : (o : Outcome) → Refuses bytes o → JudgesCheck bytes o
+  not_checked : (o : Outcome) → Refuses bytes o → JudgesCheck bytes o
 
 -- `emit` to the file of that name
 pub data JudgesEmit (bytes name : List ℕ) : Outcome → Type 0 where
-  emits : (program : tree.Program) → IsEmitted bytes program → JudgesEmit bytes name (record { status = 0; puts = put_text name program ∷ []; text = accepted })
+  emits : (program : tree.Program) → IsEmitted bytes program → JudgesEmit bytes name (behind (put_text name program) (says 0 accepted))
   not_emitted : (o : Outcome) → Refuses bytes o → JudgesEmit bytes name o
 
--- `go`, with the C in the file of that name, on an input. The input's text is looked at where the file is accepted
+-- `go`, with the C in the file of that name. The input's text is looked at where the file is accepted
 pub data JudgesGo (bytes name : List ℕ) (opts : RunOpts) (input : List ℕ) : Outcome → Type 0 where
-  goes : (program : tree.Program) → IsEmitted bytes program → (numbers : List ℤ) → input_of input ≡ Ok numbers → (r : Ran program numbers opts) → (status : ℕ) (line : List ℕ) → Ends (length r.events) r.ends status line → JudgesGo bytes name opts input (ran name r status line)
-  bad_input : IsAccepted bytes → (n : ℕ) → input_of input ≡ Err n → JudgesGo bytes name opts input (says 3 (input_line n))
-  not_run : (o : Outcome) → Refuses bytes o → JudgesGo bytes name opts input o
+  goes : (program : tree.Program) → IsEmitted bytes program → (numbers : List ℤ) → input_of input ≡ Ok numbers → (r : Ran program numbers opts) → IsSafeEnd r.ends → JudgesGo bytes name opts input (behind (put_text name program) (ran r))
+  no_numbers : IsAccepted bytes → (o : Outcome) → RefusesInput input o → JudgesGo bytes name opts input o
+  not_gone : (o : Outcome) → Refuses bytes o → JudgesGo bytes name opts input o
 
--- `go` by what its input gave
-abbrev pub JudgesRun : Given → (bytes name : List ℕ) → RunOpts → Outcome → Type 0
-JudgesRun long bytes name opts o = o ≡ says 10 limit_input
-JudgesRun (whole input) bytes name opts o = JudgesGo bytes name opts input o
+-- `run` of a text of C. The input's text is looked at where the C is of the fragment
+pub data JudgesRun (bytes : List ℕ) (opts : RunOpts) (input : List ℕ) : Outcome → Type 0 where
+  runs : (program : tree.Program) → IsCOf bytes program → (numbers : List ℤ) → input_of input ≡ Ok numbers → (r : Ran program numbers opts) → JudgesRun bytes opts input (ran r)
+  run_no_numbers : (program : tree.Program) → IsCOf bytes program → (o : Outcome) → RefusesInput input o → JudgesRun bytes opts input o
+  not_run : (o : Outcome) → RefusesC bytes o → JudgesRun bytes opts input o
 
--- what is done by what the file gave, for a command, and by what its input gave. A command that reads no input has an empty one
-abbrev pub Judges : Given → Command → Given → Outcome → Type 0
-Judges long command input o = o ≡ says 10 limit_file
-Judges (whole bytes) (c.Check source jobs) input o = JudgesCheck bytes o
-Judges (whole bytes) (c.Emit source name) input o = JudgesEmit bytes name o
-Judges (whole bytes) (c.Go source name opts) input o = JudgesRun input bytes name opts o
-Judges (whole bytes) _ input o = ⊥
+-- `replay` of a history on a text of C: first the C is looked at, then the history, then the input
+pub data JudgesReplay (bytes events input : List ℕ) : Outcome → Type 0 where
+  replays : (program : tree.Program) → IsCOf bytes program → (history : History) → IsHistoryOf events history → (numbers : List ℤ) → input_of input ≡ Ok numbers → (answer : Replayed) → Tells program numbers history.events answer → JudgesReplay bytes events input (replayed (length history.events) answer)
+  replay_no_numbers : (program : tree.Program) → IsCOf bytes program → (history : History) → IsHistoryOf events history → (o : Outcome) → RefusesInput input o → JudgesReplay bytes events input o
+  no_history : (program : tree.Program) → IsCOf bytes program → (o : Outcome) → RefusesHistory events o → JudgesReplay bytes events input o
+  not_replayed : (o : Outcome) → RefusesC bytes o → JudgesReplay bytes events input o
+
+-- ---- commands, by what they take and read
+
+-- the most bytes of a source file, and of a text of C or a history
+abbrev pub most_source : ℕ
+most_source = 1048576
+
+abbrev pub most_text : ℕ
+most_text = 268435456
+
+-- What comes of a file that is taken. Where it has more bytes than may be, nothing else is looked at
+pub data OfFile (files : Option Files) (name : List ℕ) (most : ℕ) (told left : Option (List ℕ)) (Judges : List ℕ → Outcome → Type 0) : Outcome → Type 0 where
+  too_long : Takes files name most long → left ≡ told → OfFile files name most told left Judges (says 10 (limit_file (most + 1)))
+  taken : (bytes : List ℕ) → Takes files name most (whole bytes) → (o : Outcome) → Judges bytes o → OfFile files name most told left Judges o
+
+-- the same of the input
+pub data OfInput (told left : Option (List ℕ)) (Judges : List ℕ → Outcome → Type 0) : Outcome → Type 0 where
+  input_too_long : Reads told left 1048576 long → OfInput told left Judges (says 10 limit_input)
+  read : (bytes : List ℕ) → Reads told left 1048576 (whole bytes) → (o : Outcome) → Judges bytes o → OfInput told left Judges o
+
+-- what a command does where the files and the input are told so, and what is left of the input. First the files are taken, in
+-- the order of the words, then the input is read, and then their texts are looked at
+abbrev pub Judged : Command → Option Files → Option (List ℕ) → Option (List ℕ) → Outcome → Type 0
+Judged (c.Check source jobs) files told left o = OfFile files source most_source told left (λ bytes said. (left ≡ told) × JudgesCheck bytes said) o
+Judged (c.Emit source name) files told left o = OfFile files source most_source told left (λ bytes said. (left ≡ told) × JudgesEmit bytes name said) o
+Judged (c.Go source name opts) files told left o = OfFile files source most_source told left (λ bytes. OfInput told left (JudgesGo bytes name opts)) o
+Judged (c.Run name opts) files told left o = OfFile files name most_text told left (λ bytes. OfInput told left (JudgesRun bytes opts)) o
+Judged (c.Replay name history) files told left o = OfFile files name most_text told left (λ bytes. OfFile files history most_text told left (λ events. OfInput told left (JudgesReplay bytes events))) o
+Judged _ files told left o = ⊥

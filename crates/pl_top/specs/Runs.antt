@@ -1,5 +1,5 @@
 -- What a run of a C program is found to be.
-use Rattle.std.specs.Prelude.{◌≡◌, ◌<◌, ⊤, ℕ, ℤ, List, [], ◌∷◌, ◌++◌, None, length}
+use Rattle.std.specs.Prelude.{◌≡◌, ◌<◌, ℕ, ℤ, List, [], ◌∷◌, ◌++◌, None, length}
 use Rattle.pl_words.specs.declared.command.RunOpts.{RunOpts}
 use Rattle.pl_resource.specs.declared.value.Fault.{Fault}
 use Rattle.c_syntax.specs.Tree.{Program}
@@ -9,21 +9,15 @@ use Rattle.c_meaning.specs.declared.action.Event.{Event}
 use Rattle.c_meaning.specs.Events.{State}
 use Rattle.c_meaning.specs.Steps.{Faults, Replay, race_at}
 use Rattle.c_runner.specs.declared.run_end.RunEnd.{RunEnd}
-use Rattle.c_runner.specs.declared.run_end.RunEnd.TheVariants as end
-use Rattle.pl_top.specs.Lines.{outputs_text}
-use Rattle.pl_top.specs.Judging.{Ran, Ends}
+use Rattle.c_runner.specs.Runs.{IsRun, IsRuled}
+use Rattle.pl_top.specs.Lines.{outputs_text, end_line}
+use Rattle.pl_top.specs.Judging.{status_of}
 use Rattle.pl_top.specs.declared.run.Done.{Done}
 
 -- no run of a program comes to a fault or a race
 pub record IsSafe (p : Program) : Type 0 where
   pub no_fault : (input : List ℤ) (events : List Event) (last : State) → Replay p input events last → (t : ℕ) (f : Fault) → Faults p last t f → ⊥
   pub no_race : (input : List ℤ) (events : List Event) (last : State) → Replay p input events last → (s t : ℕ) → s < t → race_at p last s t ≡ None
-
--- an end that is neither a fault nor a race
-abbrev pub IsSafeEnd : RunEnd → Type 0
-IsSafeEnd (end.Race s t cell) = ⊥
-IsSafeEnd (end.CFault t f) = ⊥
-IsSafeEnd _ = ⊤
 
 -- the number that an action printed
 abbrev pub printed_by : Action → List ℤ
@@ -36,10 +30,10 @@ printed e = printed_by e.action
 abbrev pub printed_line : Event → List ℕ
 printed_line e = outputs_text (printed e)
 
--- a run with its status and its line
+-- a run that is over, with its status and what is printed
 pub record IsDone (program : Program) (numbers : List ℤ) (opts : RunOpts) (d : Done) : Type 0 where
-  pub ran : Ran program numbers opts
-  pub events : ran.events ≡ d.history.events
-  pub line : List ℕ
-  pub ends : Ends (length ran.events) ran.ends d.status line
-  pub text : d.text.items ≡ outputs_text ran.run.last.world.outputs ++ line
+  pub ends : RunEnd
+  pub run : IsRun program numbers opts.steps d.history.events ends
+  pub ruled : opts.workers ≡ 1 → IsRuled program numbers opts.steps d.history.events
+  pub status : d.status ≡ status_of ends
+  pub text : d.text.items ≡ outputs_text run.last.world.outputs ++ end_line (length d.history.events) ends

@@ -17,11 +17,6 @@ abbrev pub given_by : Fetched → Given
 given_by (Bytes v) = whole v.items
 given_by TooLong = long
 
--- bytes that are whole are at most so many
-abbrev pub IsShort : ℕ → Given → Type 0
-IsShort most (whole bytes) = length bytes ≤ most
-IsShort most long = Unit {0}
-
 -- the file of that name gives this; where the files aren't told, its bytes are some bytes
 abbrev pub Takes : Option Files → List ℕ → ℕ → Given → Type 0
 Takes files name most (whole bytes) = HasFile files name bytes × (length bytes ≤ most)

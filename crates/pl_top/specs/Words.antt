@@ -10,28 +10,25 @@ use Rattle.pl_words.specs.Words.{refused, command_of}
 
 -- whether a command is built; the others are unknown
 abbrev pub is_built : List ℕ → Bool
-is_built w = bytes_eq w (codes "check") || bytes_eq w (codes "emit") || bytes_eq w (codes "go")
+is_built w =
+    bytes_eq w (codes "check") || bytes_eq w (codes "emit") || bytes_eq w (codes "run") || bytes_eq w (codes "replay")
+    || bytes_eq w (codes "go")
 
 -- the command that the words give, or the first wrong word
 abbrev pub asked_of : List (List ℕ) → Result Command WordError
 asked_of [] = refused NoCommand 0
 asked_of (w ∷ rest) = if is_built w then command_of (w ∷ rest) else refused UnknownCommand 0
 
--- the source file that a command takes
-abbrev pub source_of : Command → List ℕ
-source_of (c.Check file jobs) = file
-source_of (c.Emit file text) = file
-source_of (c.Go file text run) = file
-source_of _ = []
-
 -- a command that always returns
 abbrev pub Returns : Command → Type 0
 Returns (c.Check file jobs) = Unit {0}
 Returns (c.Emit file text) = Unit {0}
+Returns (c.Replay text history) = Unit {0}
 Returns _ = ⊥
 
 -- a command that runs a program
 abbrev pub Runs : Command → Type 0
+Runs (c.Run text run) = Unit {0}
 Runs (c.Go file text run) = Unit {0}
 Runs _ = ⊥
 
@@ -39,5 +36,7 @@ Runs _ = ⊥
 abbrev pub IsBuilt : Command → Type 0
 IsBuilt (c.Check file jobs) = Unit {0}
 IsBuilt (c.Emit file text) = Unit {0}
+IsBuilt (c.Run text run) = Unit {0}
+IsBuilt (c.Replay text history) = Unit {0}
 IsBuilt (c.Go file text run) = Unit {0}
 IsBuilt _ = ⊥

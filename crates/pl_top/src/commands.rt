@@ -1,31 +1,37 @@
 // The commands: what each takes, puts and writes.
-ghost use Rattle.std.specs.Prelude.{◌≡◌, true, false, ◌<◌, ◌≤◌, ◌-◌, ◌^◌, ◌∷◌, [], ℕ, IfOk, OnOk, OnErr, length};
+ghost use Rattle.std.specs.Prelude.{◌≡◌, true, false, ◌<◌, ◌≤◌, ◌+◌, ◌-◌, ◌^◌, ℕ, IfOk, OnOk, OnErr, length};
 ghost use Rattle.std.specs.Io.KnownBytes.{Appends};
 ghost use Rattle.pl_base.specs.Outside.{Counts};
 ghost use Rattle.c_syntax.specs.Plain.{plain_program};
-ghost use Rattle.c_syntax.specs.Text.{program_text};
 ghost use Rattle.pl_words.specs.Ranges as range;
 ghost use Rattle.pl_words.specs.declared.command.Command.TheVariants as c;
-ghost use Rattle.pl_top.specs.Telling.{AppendsPart, AllPut, Untouched, is_in, is_out};
-ghost use Rattle.pl_top.specs.Judging.{put_history};
-ghost use Rattle.pl_top.specs.Runs.{IsSafe};
-ghost use Rattle.pl_top.specs.Goes.{CanPut, Says, Went, FirstFailed};
-ghost use Rattle.pl_top.specs.Calls.{Answered, Begins, MaySay, DidPart};
+ghost use Rattle.pl_top.specs.Lines as text;
+ghost use Rattle.pl_top.specs.Telling.{AppendsPart, AllPut, is_in, is_out};
+ghost use Rattle.pl_top.specs.Judging.{IsReadable, put_history};
+ghost use Rattle.pl_top.specs.Goes.{CanPut, IsRunOf, HistoryFailed};
+ghost use Rattle.pl_top.specs.Calls.{Did, DidCommand};
 
-use crate::emit::Emitted;
 use crate::fetch::{Fault, Fetched, put_file, read_input, take_file, write_text};
-use crate::plan::{ToEmit, ToRun, plan_check, plan_emit, plan_run};
+use crate::judge::{PlanError, check_bytes};
+use crate::lines;
+use crate::plan::{plan_emit, plan_go, plan_replay, plan_run};
 use crate::run::run;
 use c_history::write_history;
 use c_meaning::History;
-use pl_base::{Gate, Host, Memory};
+use c_syntax::CProgram;
+use pl_base::{Gate, Host};
 use pl_words::RunOpts;
 use std::alloc::Global;
 use std::sync::Wait;
 use std::thread::Threads;
 
-// The most bytes of a source file and of an input.
-const MOST: u64 = 1_048_576;
+// The most bytes of a source file, and of a text of C or a history.
+const MOST_SOURCE: u64 = 1_048_576;
+
+const MOST_TEXT: u64 = 268_435_456;
+
+// The most bytes of an input.
+const MOST_INPUT: usize = 1_048_576;
 
 // Writes a text, and answers a status.
 fn say<H: Host>(host: &mut H, status: u8, text: &[u8]) -> Result<u8, Fault>
@@ -40,17 +46,35 @@ fn say<H: Host>(host: &mut H, status: u8, text: &[u8]) -> Result<u8, Fault>
     Ok(status)
 }
 
+// Says that a file has more bytes than may be.
+fn say_too_long<H: Host>(alloc: Global, most: u64, host: &mut H) -> Result<u8, Fault>
+    requires { most < 2 ^ 32 }
+    ensures whole { IfOk result (λ s. (s ≡ 10) × Appends (H.out host.old) (H.out host.new) (text.limit_file (most + 1))) }
+    ensures part { OnErr result (AppendsPart (H.out host.old) (H.out host.new) (text.limit_file (most + 1))) }
+    ensures outward { is_in result ≡ false }
+    ensures in_faults { Counts (is_in result) (H.in_faults host.old) (H.in_faults host.new) }
+    ensures out_faults { Counts (is_out result) (H.out_faults host.old) (H.out_faults host.new) }
+    ensures same { (H.files host.new ≡ H.files host.old) × (H.input host.new ≡ H.input host.old) }
+{
+    let line = lines::limit_file(alloc, most + 1)?;
+    say(host, 10, line.as_slice())
+}
+
 /// `check F`
 pub fn check_file<H: Host>(alloc: Global, source: &str, host: &mut H) -> Result<u8, Fault>
-    ensures answered { (jobs : ℕ) → IfOk result (λ s. Answered (c.Check source.now jobs) (H.files host.old) (H.files host.new) (H.input host.old) (H.input host.new) (H.out host.old) (H.out host.new) s) }
-    ensures part { (jobs : ℕ) → OnErr result (DidPart (Begins (c.Check source.now jobs) (H.files host.old) (H.input host.old)) (MaySay (c.Check source.now jobs) (H.files host.old) (H.input host.old)) (H.files host.old) (H.files host.new) (H.out host.old) (H.out host.new)) }
-    ensures untouched { is_in result ≡ true → Untouched (H.files host.old) (H.files host.new) (H.out host.old) (H.out host.new) }
+    ensures does { (jobs : ℕ) → DidCommand (c.Check source.now jobs) (H.files host.old) (H.files host.new) (H.input host.old) (H.input host.new) (H.out host.old) (H.out host.new) result }
     ensures in_faults { Counts (is_in result) (H.in_faults host.old) (H.in_faults host.new) }
     ensures out_faults { Counts (is_out result) (H.out_faults host.old) (H.out_faults host.new) }
 {
-    let file = take_file(host, source, MOST)?;
-    let answer = plan_check(alloc, &file)?;
-    say(host, answer.status, answer.text.as_slice())
+    let file = take_file(host, source, MOST_SOURCE)?;
+    let Fetched::Bytes(bytes) = file else {
+        return say_too_long(alloc, MOST_SOURCE, host);
+    };
+    match check_bytes(alloc, bytes.as_slice()) {
+        Ok(_) => say(host, 0, lines::accepted()),
+        Err(PlanError::Refused(answer)) => say(host, answer.status, answer.text.as_slice()),
+        Err(PlanError::Memory) => Err(Fault::Memory),
+    }
 }
 
 /// `emit F -o C`
@@ -60,19 +84,21 @@ pub fn emit_file<H: Host>(
     name: &str,
     host: &mut H,
 ) -> Result<u8, Fault>
-    ensures answered { IfOk result (λ s. Answered (c.Emit source.now name.now) (H.files host.old) (H.files host.new) (H.input host.old) (H.input host.new) (H.out host.old) (H.out host.new) s) }
-    ensures part { OnErr result (DidPart (Begins (c.Emit source.now name.now) (H.files host.old) (H.input host.old)) (MaySay (c.Emit source.now name.now) (H.files host.old) (H.input host.old)) (H.files host.old) (H.files host.new) (H.out host.old) (H.out host.new)) }
-    ensures untouched { is_in result ≡ true → Untouched (H.files host.old) (H.files host.new) (H.out host.old) (H.out host.new) }
+    ensures does { DidCommand (c.Emit source.now name.now) (H.files host.old) (H.files host.new) (H.input host.old) (H.input host.new) (H.out host.old) (H.out host.new) result }
     ensures in_faults { Counts (is_in result) (H.in_faults host.old) (H.in_faults host.new) }
     ensures out_faults { Counts (is_out result) (H.out_faults host.old) (H.out_faults host.new) }
 {
-    let file = take_file(host, source, MOST)?;
-    match plan_emit(alloc, &file)? {
-        ToEmit::Emits(emitted) => {
+    let file = take_file(host, source, MOST_SOURCE)?;
+    let Fetched::Bytes(bytes) = file else {
+        return say_too_long(alloc, MOST_SOURCE, host);
+    };
+    match plan_emit(alloc, bytes.as_slice()) {
+        Ok(emitted) => {
             put_file(host, name, emitted.text.as_slice())?;
-            say(host, 0, b"accepted\n")
+            say(host, 0, lines::accepted())
         }
-        ToEmit::Refused(answer) => say(host, answer.status, answer.text.as_slice()),
+        Err(PlanError::Refused(answer)) => say(host, answer.status, answer.text.as_slice()),
+        Err(PlanError::Memory) => Err(Fault::Memory),
     }
 }
 
@@ -84,8 +110,9 @@ fn keep_history<H: Host>(
     host: &mut H,
 ) -> Result<(), Fault>
     requires { length history.now.events < 2 ^ 32 - 1 }
+    ensures readable { OnOk result (IsReadable opts.now.history history.now.events) }
     ensures puts { OnOk result (AllPut (put_history opts.now.history history.now.events) (H.files host.old) (H.files host.new)) }
-    ensures part { OnErr result (FirstFailed (put_history opts.now.history history.now.events) (H.files host.old) (H.files host.new)) }
+    ensures failed { OnErr result (HistoryFailed opts.now.history history.now.events (H.files host.old) (H.files host.new)) }
     ensures outward { is_in result ≡ false }
     ensures in_faults { Counts (is_in result) (H.in_faults host.old) (H.in_faults host.new) }
     ensures out_faults { Counts (is_out result) (H.out_faults host.old) (H.out_faults host.new) }
@@ -98,29 +125,24 @@ fn keep_history<H: Host>(
     put_file(host, name.text(), text.as_slice())
 }
 
-// Puts the C text, runs it, puts the history of the run, and writes what it printed.
-fn go_on<R: Threads + Wait + Sync, H: Host, G: Gate>(
+// Runs a program, puts the history of the run, and writes what it printed and how it ended.
+fn run_program<R: Threads + Wait + Sync, H: Host, G: Gate>(
     rt: &R,
     alloc: Global,
-    emitted: &Emitted,
+    program: &CProgram,
     numbers: &[i64],
-    name: &str,
     opts: &RunOpts,
     host: &mut H,
     gate: &G,
 ) -> Result<u8, Fault>
-    requires safe { IsSafe (plain_program emitted.now.program) }
-    requires text { emitted.now.text.items ≡ program_text (plain_program emitted.now.program) }
-    requires in_range { range.IsRun opts.now }
-    ensures went { IfOk result (Went (plain_program emitted.now.program) numbers.now opts.now name.now (H.files host.old) (H.files host.new) (H.out host.old) (H.out host.new)) }
-    ensures part { OnErr result (DidPart (CanPut (plain_program emitted.now.program) numbers.now opts.now name.now) (Says (plain_program emitted.now.program) numbers.now opts.now name.now) (H.files host.old) (H.files host.new) (H.out host.old) (H.out host.new)) }
+    requires { range.IsRun opts.now }
+    ensures does { Did (CanPut (plain_program program.now) numbers.now opts.now) (IsRunOf (plain_program program.now) numbers.now opts.now) (H.files host.old) (H.files host.new) (H.out host.old) (H.out host.new) result }
     ensures outward { is_in result ≡ false }
     ensures in_faults { Counts (is_in result) (H.in_faults host.old) (H.in_faults host.new) }
     ensures out_faults { Counts (is_out result) (H.out_faults host.old) (H.out_faults host.new) }
     ensures same { H.input host.new ≡ H.input host.old }
 {
-    put_file(host, name, emitted.text.as_slice())?;
-    let done = run(rt, alloc, &emitted.program, numbers, opts, gate)?;
+    let done = run(rt, alloc, program, numbers, opts, gate)?;
     keep_history(alloc, opts, &done.history, host)?;
     say(host, done.status, done.text.as_slice())
 }
@@ -135,29 +157,100 @@ pub fn go_file<R: Threads + Wait + Sync, H: Host, G: Gate>(
     host: &mut H,
     gate: &G,
 ) -> Result<u8, Fault>
-    requires in_range { range.IsRun opts.now }
-    ensures answered { IfOk result (λ s. Answered (c.Go source.now name.now opts.now) (H.files host.old) (H.files host.new) (H.input host.old) (H.input host.new) (H.out host.old) (H.out host.new) s) }
-    ensures part { OnErr result (DidPart (Begins (c.Go source.now name.now opts.now) (H.files host.old) (H.input host.old)) (MaySay (c.Go source.now name.now opts.now) (H.files host.old) (H.input host.old)) (H.files host.old) (H.files host.new) (H.out host.old) (H.out host.new)) }
-    ensures untouched { is_in result ≡ true → Untouched (H.files host.old) (H.files host.new) (H.out host.old) (H.out host.new) }
+    requires { range.IsRun opts.now }
+    ensures does { DidCommand (c.Go source.now name.now opts.now) (H.files host.old) (H.files host.new) (H.input host.old) (H.input host.new) (H.out host.old) (H.out host.new) result }
     ensures in_faults { Counts (is_in result) (H.in_faults host.old) (H.in_faults host.new) }
     ensures out_faults { Counts (is_out result) (H.out_faults host.old) (H.out_faults host.new) }
 {
-    let file = take_file(host, source, MOST)?;
+    let file = take_file(host, source, MOST_SOURCE)?;
     let Fetched::Bytes(bytes) = file else {
-        return say(host, 10, b"limit file 1048577\n");
+        return say_too_long(alloc, MOST_SOURCE, host);
     };
-    let input = read_input(alloc, host, MOST as usize)?;
-    match plan_run(alloc, bytes.as_slice(), &input)? {
-        ToRun::Runs(emitted, numbers) => go_on(
+    let input = read_input(alloc, host, MOST_INPUT)?;
+    let Fetched::Bytes(input) = input else {
+        return say(host, 10, lines::limit_input());
+    };
+    match plan_go(alloc, bytes.as_slice(), input.as_slice()) {
+        Ok((emitted, numbers)) => {
+            put_file(host, name, emitted.text.as_slice())?;
+            run_program(
+                rt,
+                alloc,
+                &emitted.program,
+                numbers.as_slice(),
+                opts,
+                host,
+                gate,
+            )
+        }
+        Err(PlanError::Refused(answer)) => say(host, answer.status, answer.text.as_slice()),
+        Err(PlanError::Memory) => Err(Fault::Memory),
+    }
+}
+
+/// `run C [--steps N] [--workers W] [--history H]`
+pub fn run_file<R: Threads + Wait + Sync, H: Host, G: Gate>(
+    rt: &R,
+    alloc: Global,
+    name: &str,
+    opts: &RunOpts,
+    host: &mut H,
+    gate: &G,
+) -> Result<u8, Fault>
+    requires { range.IsRun opts.now }
+    ensures does { DidCommand (c.Run name.now opts.now) (H.files host.old) (H.files host.new) (H.input host.old) (H.input host.new) (H.out host.old) (H.out host.new) result }
+    ensures in_faults { Counts (is_in result) (H.in_faults host.old) (H.in_faults host.new) }
+    ensures out_faults { Counts (is_out result) (H.out_faults host.old) (H.out_faults host.new) }
+{
+    let file = take_file(host, name, MOST_TEXT)?;
+    let Fetched::Bytes(bytes) = file else {
+        return say_too_long(alloc, MOST_TEXT, host);
+    };
+    let input = read_input(alloc, host, MOST_INPUT)?;
+    let Fetched::Bytes(input) = input else {
+        return say(host, 10, lines::limit_input());
+    };
+    match plan_run(alloc, bytes.as_slice(), input.as_slice()) {
+        Ok((program, numbers)) => run_program(
             rt,
             alloc,
-            &emitted,
+            &program,
             numbers.as_slice(),
-            name,
             opts,
             host,
             gate,
         ),
-        ToRun::Refused(answer) => say(host, answer.status, answer.text.as_slice()),
+        Err(PlanError::Refused(answer)) => say(host, answer.status, answer.text.as_slice()),
+        Err(PlanError::Memory) => Err(Fault::Memory),
+    }
+}
+
+/// `replay C H`
+pub fn replay_file<H: Host>(
+    alloc: Global,
+    name: &str,
+    history: &str,
+    host: &mut H,
+) -> Result<u8, Fault>
+    ensures does { DidCommand (c.Replay name.now history.now) (H.files host.old) (H.files host.new) (H.input host.old) (H.input host.new) (H.out host.old) (H.out host.new) result }
+    ensures in_faults { Counts (is_in result) (H.in_faults host.old) (H.in_faults host.new) }
+    ensures out_faults { Counts (is_out result) (H.out_faults host.old) (H.out_faults host.new) }
+{
+    let text = take_file(host, name, MOST_TEXT)?;
+    let Fetched::Bytes(bytes) = text else {
+        return say_too_long(alloc, MOST_TEXT, host);
+    };
+    let events = take_file(host, history, MOST_TEXT)?;
+    let Fetched::Bytes(events) = events else {
+        return say_too_long(alloc, MOST_TEXT, host);
+    };
+    let input = read_input(alloc, host, MOST_INPUT)?;
+    let Fetched::Bytes(input) = input else {
+        return say(host, 10, lines::limit_input());
+    };
+    match plan_replay(alloc, bytes.as_slice(), events.as_slice(), input.as_slice()) {
+        Ok(answer) => say(host, answer.status, answer.text.as_slice()),
+        Err(PlanError::Refused(answer)) => say(host, answer.status, answer.text.as_slice()),
+        Err(PlanError::Memory) => Err(Fault::Memory),
     }
 }

@@ -1,9 +1,11 @@
 // What a file is found to be.
-ghost use Rattle.std.specs.Prelude.{◌≡◌, ◌≤◌, ◌∷◌, [], length, IfOk};
+ghost use Rattle.std.specs.Prelude.{◌≡◌, ◌≤◌, ◌∷◌, [], length, IfOk, IfErr};
 ghost use Rattle.pl_syntax.specs.Tree as t;
 ghost use Rattle.pl_syntax.specs.Plain.{plain_program};
 ghost use Rattle.pl_syntax.specs.Sorts.{IsMain};
-ghost use Rattle.pl_top.specs.Checks.{Finds, IsNotBuiltSaid, IsChecked};
+ghost use Rattle.pl_top.specs.Lines.{not_built};
+ghost use Rattle.pl_top.specs.Judging.{says, Refuses};
+ghost use Rattle.pl_top.specs.Checks.{said, IfRefused, Finds, AcceptedAs};
 
 use crate::lines::duty_line;
 use crate::reading::read;
@@ -19,11 +21,23 @@ pub struct Answer {
     pub text: Vec<u8>,
 }
 
-/// A program that is accepted, or what is said of a file that is refused.
+/// Why nothing is put or run.
 #[derive(Drop)]
-pub enum Checked {
-    Accepted(Typed),
+pub enum PlanError {
+    /// A file or an input is refused, and this is said of it.
     Refused(Answer),
+    Memory,
+}
+
+impl From<Memory> for PlanError {
+    ghost use Rattle.std.specs.Prelude.{◌≡◌};
+    ghost use Rattle.pl_top.specs.declared.judge.PlanError.TheVariants.{Memory};
+
+    ghost from_gives = { λ _ e. e ≡ Memory };
+
+    fn from(_: Memory) -> PlanError {
+        PlanError::Memory
+    }
 }
 
 // What is said of the first duty that is left undone, if there is one.
@@ -41,23 +55,28 @@ fn first_undone(alloc: Global, typed: &Typed) -> Result<Option<Answer>, Memory>
     }
 }
 
-fn not_built(alloc: Global) -> Result<Checked, Memory>
-    ensures { IfOk result IsNotBuiltSaid }
+fn not_built(alloc: Global) -> Result<Answer, Memory>
+    ensures { IfOk result (λ a. said a ≡ says 3 not_built) }
 {
     let text = Vec::from_slice(alloc, b"not built\n")?;
-    Ok(Checked::Refused(Answer { status: 3, text }))
+    Ok(Answer { status: 3, text })
 }
 
-/// The program of a file's bytes, if no duty of it is left undone, and else what is said of it.
-pub fn check_bytes(alloc: Global, bytes: &[u8]) -> Result<Checked, Memory>
+/// The program of a file's bytes, if no duty of it is left undone.
+///
+/// # Errors
+///
+/// What is said of a file that is refused, and want of memory.
+pub fn check_bytes(alloc: Global, bytes: &[u8]) -> Result<Typed, PlanError>
     requires { length bytes.now ≤ 1048576 }
-    ensures { IfOk result (IsChecked bytes.now) }
+    ensures accepted { IfOk result (λ typed. AcceptedAs bytes.now (plain_program typed)) }
+    ensures refused { IfErr result (λ e. IfRefused e (Refuses bytes.now)) }
 {
     let Some(typed) = read(alloc, bytes)? else {
-        return not_built(alloc);
+        return Err(PlanError::Refused(not_built(alloc)?));
     };
     match first_undone(alloc, &typed)? {
-        None => Ok(Checked::Accepted(typed)),
-        Some(answer) => Ok(Checked::Refused(answer)),
+        None => Ok(typed),
+        Some(answer) => Err(PlanError::Refused(answer)),
     }
 }

@@ -1,5 +1,5 @@
-//! The program's top call: words, files, the reader of the small grammar, the walk, the C of a program and its runs, and the
-//! lines.
+//! The program's top call: words, files, the reader of the small grammar, the walk, the C of a program, runs and replays of
+//! C, and the lines.
 #![tactic(auto)]
 
 mod commands;
@@ -7,6 +7,7 @@ mod emit;
 mod fetch;
 mod input;
 mod judge;
+mod laws;
 mod lexing;
 mod lines;
 mod parsing;
@@ -17,6 +18,7 @@ mod sorting;
 mod top;
 mod words;
 
+pub use laws::stored_laws;
 pub use top::{check_command, pulse_main, run_command};
 
 #[cfg(test)]

@@ -1,117 +1,147 @@
-// What is done with a file and an input.
-ghost use Rattle.std.specs.Prelude.{◌≡◌, ◌≤◌, IfOk, length};
-ghost use Rattle.pl_syntax.specs.Plain.{plain_program};
-ghost use Rattle.pl_top.specs.Telling.{whole, given_by, IsShort};
-ghost use Rattle.pl_top.specs.Judging.{JudgesCheck};
-ghost use Rattle.pl_top.specs.Checks.{said, SaysCheck};
-ghost use Rattle.pl_top.specs.Goes.{PlansEmit, PlansRun, PlansProgram};
+// What is done with the bytes of files and of an input.
+ghost use Rattle.std.specs.Prelude.{◌≡◌, ◌<◌, ◌≤◌, ◌-◌, ◌^◌, List, ℕ, Ok, IfOk, IfErr, length};
+ghost use Rattle.c_syntax.specs.Plain.{plain_program};
+ghost use Rattle.pl_words.specs.declared.command.RunOpts.{RunOpts};
+ghost use Rattle.pl_top.specs.Input.{input_of};
+ghost use Rattle.pl_top.specs.Judging.{Refuses, IsCOf, RefusesC, IsHistoryOf, RefusesHistory, RefusesInput, JudgesGo, JudgesRun, JudgesReplay};
+ghost use Rattle.pl_top.specs.Checks.{said, IfRefused};
+ghost use Rattle.pl_top.specs.Goes.{IsProgramOf, IsReplayOf};
 
 use crate::emit::{Emitted, emit};
-use crate::fetch::Fetched;
 use crate::input::{InputError, read_numbers};
-use crate::judge::{Answer, Checked, check_bytes};
-use crate::lines::input_line;
+use crate::judge::{Answer, PlanError, check_bytes};
+use crate::lines;
+use c_history::{HistoryError, Replayed, read_history, replay};
+use c_meaning::History;
+use c_reader::{ReadCError, read_c};
+use c_syntax::CProgram;
 use pl_base::Memory;
-use pl_syntax::Typed;
 use std::alloc::Global;
 
-/// A C program to be put, or what is said of a file that is refused.
-#[derive(Drop)]
-pub enum ToEmit {
-    Emits(Emitted),
-    Refused(Answer),
-}
-
-/// A C program to be put and run on these numbers, or what is said of a file or an input that is refused.
-#[derive(Drop)]
-pub enum ToRun {
-    Runs(Emitted, Vec<i64>),
-    Refused(Answer),
-}
-
-fn answer(alloc: Global, status: u8, text: &[u8]) -> Result<Answer, Memory>
-    ensures { IfOk result (λ a. (a.status ≡ status) × (a.text.items ≡ text.now)) }
+// The C program of which the bytes are the text.
+fn c_of(alloc: Global, bytes: &[u8]) -> Result<CProgram, PlanError>
+    requires { length bytes.now ≤ 268435456 }
+    ensures is { IfOk result (λ c. IsCOf bytes.now (plain_program c)) }
+    ensures refused { IfErr result (λ e. IfRefused e (RefusesC bytes.now)) }
 {
-    let text = Vec::from_slice(alloc, text)?;
-    Ok(Answer { status, text })
-}
-
-fn check_answer(alloc: Global, bytes: &[u8]) -> Result<Answer, Memory>
-    requires { length bytes.now ≤ 1048576 }
-    ensures { IfOk result (λ a. JudgesCheck bytes.now (said a)) }
-{
-    match check_bytes(alloc, bytes)? {
-        Checked::Accepted(_) => answer(alloc, 0, b"accepted\n"),
-        Checked::Refused(said) => Ok(said),
+    match read_c(alloc, bytes) {
+        Ok(program) => Ok(program),
+        Err(ReadCError::NotFragment(byte)) => {
+            let text = lines::c_line(alloc, byte)?;
+            Err(PlanError::Refused(Answer { status: 3, text }))
+        }
+        Err(ReadCError::Memory) => Err(PlanError::Memory),
     }
 }
 
-/// What `check` says of a file.
-pub fn plan_check(alloc: Global, file: &Fetched) -> Result<Answer, Memory>
-    requires { IsShort 1048576 (given_by file.now) }
-    ensures { IfOk result (SaysCheck (given_by file.now)) }
+// The history of which the bytes are the text.
+fn history_of(alloc: Global, bytes: &[u8]) -> Result<History, PlanError>
+    requires { length bytes.now ≤ 268435456 }
+    ensures is { IfOk result (IsHistoryOf bytes.now) }
+    ensures few { IfOk result (λ h. length h.events < 2 ^ 32 - 1) }
+    ensures refused { IfErr result (λ e. IfRefused e (RefusesHistory bytes.now)) }
 {
-    match file {
-        Fetched::Bytes(bytes) => check_answer(alloc, bytes.as_slice()),
-        Fetched::TooLong => answer(alloc, 10, b"limit file 1048577\n"),
+    match read_history(alloc, bytes) {
+        Ok(history) => Ok(history),
+        Err(HistoryError::BadHistory(line)) => {
+            let text = lines::history_line(alloc, line)?;
+            Err(PlanError::Refused(Answer { status: 3, text }))
+        }
+        Err(HistoryError::Memory) => Err(PlanError::Memory),
     }
 }
 
-fn plan_bytes(alloc: Global, bytes: &[u8]) -> Result<ToEmit, Memory>
-    requires { length bytes.now ≤ 1048576 }
-    ensures { IfOk result (PlansEmit (whole bytes.now)) }
-{
-    match check_bytes(alloc, bytes)? {
-        Checked::Accepted(typed) => Ok(ToEmit::Emits(emit(alloc, &typed)?)),
-        Checked::Refused(said) => Ok(ToEmit::Refused(said)),
-    }
-}
-
-/// What `emit` does with a file.
-pub fn plan_emit(alloc: Global, file: &Fetched) -> Result<ToEmit, Memory>
-    requires { IsShort 1048576 (given_by file.now) }
-    ensures { IfOk result (PlansEmit (given_by file.now)) }
-{
-    match file {
-        Fetched::Bytes(bytes) => plan_bytes(alloc, bytes.as_slice()),
-        Fetched::TooLong => Ok(ToEmit::Refused(answer(alloc, 10, b"limit file 1048577\n")?)),
-    }
-}
-
-// What is done with a program that is accepted and the text of an input.
-fn plan_program(alloc: Global, typed: &Typed, input: &[u8]) -> Result<ToRun, Memory>
+// The numbers of an input.
+fn numbers_of(alloc: Global, input: &[u8]) -> Result<Vec<i64>, PlanError>
     requires { length input.now ≤ 1048576 }
-    ensures { IfOk result (PlansProgram (plain_program typed.now) input.now) }
+    ensures are { IfOk result (λ numbers. input_of input.now ≡ Ok numbers.items) }
+    ensures refused { IfErr result (λ e. IfRefused e (RefusesInput input.now)) }
 {
     match read_numbers(alloc, input) {
-        Ok(numbers) => Ok(ToRun::Runs(emit(alloc, typed)?, numbers)),
+        Ok(numbers) => Ok(numbers),
         Err(InputError::Line(line)) => {
-            let text = input_line(alloc, line)?;
-            Ok(ToRun::Refused(Answer { status: 3, text }))
+            let text = lines::input_line(alloc, line)?;
+            Err(PlanError::Refused(Answer { status: 3, text }))
         }
-        Err(InputError::Memory) => Err(Memory),
+        Err(InputError::Memory) => Err(PlanError::Memory),
     }
 }
 
-fn plan_input(alloc: Global, bytes: &[u8], input: &[u8]) -> Result<ToRun, Memory>
+/// What `emit` puts, by a file's bytes.
+pub fn plan_emit(alloc: Global, bytes: &[u8]) -> Result<Emitted, PlanError>
+    requires { length bytes.now ≤ 1048576 }
+    ensures emits { IfOk result (IsProgramOf bytes.now) }
+    ensures refused { IfErr result (λ e. IfRefused e (Refuses bytes.now)) }
+{
+    let typed = check_bytes(alloc, bytes)?;
+    Ok(emit(alloc, &typed)?)
+}
+
+/// What `go` puts and runs, and on which numbers, by a file's bytes and an input's.
+pub fn plan_go(alloc: Global, bytes: &[u8], input: &[u8]) -> Result<(Emitted, Vec<i64>), PlanError>
     requires bytes { length bytes.now ≤ 1048576 }
     requires input { length input.now ≤ 1048576 }
-    ensures { IfOk result (PlansRun bytes.now (whole input.now)) }
+    ensures goes { IfOk result (λ x. IsProgramOf bytes.now x.0 × (input_of input.now ≡ Ok x.1.items)) }
+    ensures refused { (name : List ℕ) (opts : RunOpts) → IfErr result (λ e. IfRefused e (JudgesGo bytes.now name opts input.now)) }
 {
-    match check_bytes(alloc, bytes)? {
-        Checked::Accepted(typed) => plan_program(alloc, &typed, input),
-        Checked::Refused(said) => Ok(ToRun::Refused(said)),
+    let emitted = plan_emit(alloc, bytes)?;
+    let numbers = numbers_of(alloc, input)?;
+    Ok((emitted, numbers))
+}
+
+/// What `run` runs, and on which numbers, by the bytes of a text of C and an input's.
+pub fn plan_run(
+    alloc: Global,
+    bytes: &[u8],
+    input: &[u8],
+) -> Result<(CProgram, Vec<i64>), PlanError>
+    requires bytes { length bytes.now ≤ 268435456 }
+    requires input { length input.now ≤ 1048576 }
+    ensures runs { IfOk result (λ x. IsCOf bytes.now (plain_program x.0) × (input_of input.now ≡ Ok x.1.items)) }
+    ensures refused { (opts : RunOpts) → IfErr result (λ e. IfRefused e (JudgesRun bytes.now opts input.now)) }
+{
+    let program = c_of(alloc, bytes)?;
+    let numbers = numbers_of(alloc, input)?;
+    Ok((program, numbers))
+}
+
+// Follows a history.
+fn replay_answer(
+    alloc: Global,
+    program: &CProgram,
+    numbers: &[i64],
+    history: &History,
+) -> Result<Answer, Memory>
+    requires { length history.now.events < 2 ^ 32 - 1 }
+    ensures { IfOk result (λ a. IsReplayOf (plain_program program.now) numbers.now history.now.events (said a)) }
+{
+    match replay(alloc, program, numbers, history)? {
+        Replayed::Follows => {
+            let text = lines::follows_line(alloc, history.events.as_slice().len() as u32)?;
+            Ok(Answer { status: 0, text })
+        }
+        Replayed::Differs(k, expected, found) => {
+            let text = lines::differs_line(alloc, k, &expected, &found)?;
+            Ok(Answer { status: 1, text })
+        }
     }
 }
 
-/// What `go` does with a file's bytes and an input.
-pub fn plan_run(alloc: Global, bytes: &[u8], input: &Fetched) -> Result<ToRun, Memory>
-    requires bytes { length bytes.now ≤ 1048576 }
-    requires input { IsShort 1048576 (given_by input.now) }
-    ensures { IfOk result (PlansRun bytes.now (given_by input.now)) }
+/// What `replay` says, by the bytes of a text of C, of a history and of an input.
+pub fn plan_replay(
+    alloc: Global,
+    bytes: &[u8],
+    events: &[u8],
+    input: &[u8],
+) -> Result<Answer, PlanError>
+    requires bytes { length bytes.now ≤ 268435456 }
+    requires events { length events.now ≤ 268435456 }
+    requires input { length input.now ≤ 1048576 }
+    ensures answer { IfOk result (λ a. JudgesReplay bytes.now events.now input.now (said a)) }
+    ensures refused { IfErr result (λ e. IfRefused e (JudgesReplay bytes.now events.now input.now)) }
 {
-    match input {
-        Fetched::Bytes(input) => plan_input(alloc, bytes, input.as_slice()),
-        Fetched::TooLong => Ok(ToRun::Refused(answer(alloc, 10, b"limit input 1048577\n")?)),
-    }
+    let program = c_of(alloc, bytes)?;
+    let history = history_of(alloc, events)?;
+    let numbers = numbers_of(alloc, input)?;
+    Ok(replay_answer(alloc, &program, numbers.as_slice(), &history)?)
 }

@@ -3,8 +3,8 @@ ghost use Rattle.std.specs.Prelude.{◌≡◌, ◌≤◌, ◌<◌, ◌-◌, ◌^
 ghost use Rattle.c_syntax.specs.Plain.{plain_program};
 ghost use Rattle.pl_words.specs.Ranges as range;
 ghost use Rattle.pl_top.specs.Lines.{outputs_text, number_line};
-ghost use Rattle.pl_top.specs.Judging.{Ends};
-ghost use Rattle.pl_top.specs.Runs.{IsSafe, IsSafeEnd, IsDone, printed_line};
+ghost use Rattle.pl_top.specs.Judging as judging;
+ghost use Rattle.pl_top.specs.Runs.{IsDone, printed_line};
 
 use crate::lines;
 use c_meaning::{Action, Event, History};
@@ -48,21 +48,19 @@ fn outputs(alloc: Global, events: &[Event]) -> Result<Vec<u8>, Memory>
     Ok(text)
 }
 
-// The line of an end, and its status.
-fn ending(alloc: Global, end: RunEnd, events: u32) -> Result<(u8, Vec<u8>), Memory>
-    requires safe { IsSafeEnd end }
-    ensures { IfOk result (λ r. Ends events end r.0 r.1.items) }
+fn status_of(end: RunEnd) -> u8
+    ensures { result ≡ judging.status_of end }
 {
     match end {
-        RunEnd::Ended => Ok((0, Vec::new(alloc))),
-        RunEnd::Deadlock => Ok((7, lines::deadlock_line(alloc, events)?)),
-        RunEnd::StepBound => Ok((8, lines::bound_line(alloc, events)?)),
-        RunEnd::ThreadLimit => Ok((10, Vec::from_slice(alloc, b"limit threads 1024\n")?)),
-        RunEnd::Race(_, _, _) | RunEnd::CFault(_, _) => unreachable!(),
+        RunEnd::Ended => 0,
+        RunEnd::Deadlock => 7,
+        RunEnd::StepBound => 8,
+        RunEnd::Race(_, _, _) | RunEnd::CFault(_, _) => 9,
+        RunEnd::ThreadLimit => 10,
     }
 }
 
-/// Runs a program of which no run faults or races.
+/// Runs a program.
 pub fn run<R: Threads + Wait + Sync, G: Gate>(
     rt: &R,
     alloc: Global,
@@ -71,8 +69,7 @@ pub fn run<R: Threads + Wait + Sync, G: Gate>(
     opts: &RunOpts,
     gate: &G,
 ) -> Result<Done, Memory>
-    requires safe { IsSafe (plain_program program.now) }
-    requires in_range { range.IsRun opts.now }
+    requires { range.IsRun opts.now }
     ensures done { IfOk result (IsDone (plain_program program.now) numbers.now opts.now) }
     ensures few { IfOk result (λ d. length d.history.events < 2 ^ 32 - 1) }
 {
@@ -87,10 +84,10 @@ pub fn run<R: Threads + Wait + Sync, G: Gate>(
     )?;
     let events = history.events.as_slice();
     let mut text = outputs(alloc, events)?;
-    let (status, line) = ending(alloc, end, events.len() as u32)?;
+    let line = lines::end_line(alloc, end, events.len() as u32)?;
     text.extend_from_slice(line.as_slice())?;
     Ok(Done {
-        status,
+        status: status_of(end),
         text,
         history,
     })

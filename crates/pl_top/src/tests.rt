@@ -5,7 +5,9 @@ use pl_base::{
 };
 use std::alloc::{AllocError, Global};
 use std::process::Abort;
+use std::sync::Wait;
 use std::test::*;
+use std::thread::Threads;
 
 const FIRST: &[u8] =
     b"fn main() {\n  let r = alloc(5);\n  let v = !r;\n  print(v);\n  free(r);\n}\n";
@@ -166,7 +168,15 @@ fn words_are_read(rt: HostRuntime) -> Result<(), Fail> {
             &["prove", "f", "-o", "d"] as &[&str],
             "usage: UnknownCommand at 0\n",
         ),
-        (&["run", "c"] as &[&str], "usage: UnknownCommand at 0\n"),
+        (
+            &["races", "c", "h"] as &[&str],
+            "usage: UnknownCommand at 0\n",
+        ),
+        (&["replay", "c"] as &[&str], "usage: MissingWord at 2\n"),
+        (
+            &["run", "c", "--workers", "0"] as &[&str],
+            "usage: BadNumber at 3\n",
+        ),
         (&["go", "f"] as &[&str], "usage: MissingWord at 2\n"),
         (
             &["go", "f", "-o", "c", "--workers", "65"] as &[&str],
@@ -321,6 +331,191 @@ fn each_call_of_an_emission_fails_once(rt: HostRuntime) -> Result<(), Fail> {
             status
         );
         assert_eq!(rt; ends_with(host.file("c"), C_LINES), text);
+        assert_eq!(rt; host.out().is_empty(), status != 0);
+    }
+    Ok(())
+}
+
+// ---- texts of C
+
+// Two threads that store to one cell.
+const RACE: &[u8] =
+    b"static void f_a(int64_t *v_r_1);\nstatic void f_b(int64_t *v_r_1);\nstatic void f_main(void);\nstruct a_a {\n  char a_0;\n  int64_t *a_1;\n};\nstatic int t_a(void *p) {\n  struct a_a *q = p;\n  struct a_a c = *q;\n  free(q);\n  f_a(c.a_1);\n  return 0;\n}\nstatic void f_a(int64_t *v_r_1) {\n  p_print(INT64_C(1));\n  *v_r_1 = INT64_C(1);\n}\nstatic void f_b(int64_t *v_r_1) {\n  *v_r_1 = INT64_C(2);\n}\nstatic void f_main(void) {\n  int64_t *v_r_1 = p_new_i64(INT64_C(0));\n  {\n    struct a_a *q = p_get(sizeof(struct a_a));\n    q->a_1 = v_r_1;\n    thrd_t t = p_fork(t_a, q);\n    f_b(v_r_1);\n    p_join(t);\n  }\n  free(v_r_1);\n}\nint main(void) {\n  f_main();\n  return 0;\n}\n";
+
+const ZERO_DIVISOR: &[u8] =
+    b"static void f_main(void);\nstatic void f_main(void) {\n  p_print((INT64_C(1) / INT64_C(0)));\n}\nint main(void) {\n  f_main();\n  return 0;\n}\n";
+
+const SECOND_BLANK: &[u8] =
+    b"static void f_main(void);\nstatic void f_main(void) {\n  p_print( INT64_C(1));\n}\nint main(void) {\n  f_main();\n  return 0;\n}\n";
+
+// A text of C: the prelude, as `emit` writes it, and these lines.
+fn c_text<R: Threads + Wait + Sync>(rt: &R, alloc: Global, lines: &[u8]) -> Result<Vec<u8>, Fail> {
+    let words = words_of(alloc, &["emit", "f", "-o", "c"])?;
+    let mut host = SteadyHost::new(alloc, one_file(alloc, FIRST)?, Vec::new(alloc));
+    let _ = pulse_main(rt, alloc, words.as_slice(), &mut host, &NullGate);
+    let mut text = Vec::new(alloc);
+    if let Some(first) = host.file("c") {
+        if let Some(prelude) = first.strip_suffix(C_LINES) {
+            text.extend_from_slice(prelude)?;
+        }
+    }
+    text.extend_from_slice(lines)?;
+    Ok(text)
+}
+
+// The files `c` and `h`.
+fn c_and_history(alloc: Global, text: Vec<u8>, history: &[u8]) -> Result<Vec<HostFile>, Memory> {
+    let mut files = Vec::new(alloc);
+    files.push(HostFile {
+        name: Name::of(alloc, "c")?,
+        bytes: Items::of(text),
+    })?;
+    files.push(HostFile {
+        name: Name::of(alloc, "h")?,
+        bytes: Items::of(Vec::from_slice(alloc, history)?),
+    })?;
+    Ok(files)
+}
+
+#[test]
+fn a_text_of_c_runs(rt: HostRuntime) -> Result<(), Fail> {
+    let alloc = rt.alloc();
+    for (lines, steps, status, text, history) in [
+        (C_LINES, "9", 0, "5\n", HISTORY),
+        (
+            C_LINES,
+            "1",
+            8,
+            "bound after 1 events\n",
+            b"pulse-history 1\n0 alloc b0 1\nend 1\n".as_slice(),
+        ),
+        (
+            RACE,
+            "9",
+            9,
+            "1\nrace of 0 and 1 at b0.0.0 after 4 events\n",
+            b"pulse-history 1\n0 alloc b0 1\n0 fork 1\n1 print 1\n0 call 1\nend 4\n".as_slice(),
+        ),
+        (
+            ZERO_DIVISOR,
+            "9",
+            9,
+            "fault of 0: zero divisor after 0 events\n",
+            b"pulse-history 1\nend 0\n".as_slice(),
+        ),
+        (SECOND_BLANK, "9", 3, "C byte 1740\n", b"".as_slice()),
+    ] {
+        let words = words_of(
+            alloc,
+            &[
+                "run",
+                "c",
+                "--workers",
+                "1",
+                "--steps",
+                steps,
+                "--history",
+                "h",
+            ],
+        )?;
+        let files = c_and_history(alloc, c_text(&rt, alloc, lines)?, b"")?;
+        let mut host = SteadyHost::new(alloc, files, Vec::new(alloc));
+        assert_eq!(rt;
+            pulse_main(&rt, alloc, words.as_slice(), &mut host, &NullGate),
+            status
+        );
+        assert_eq!(rt; host.out(), text.as_bytes());
+        assert!(rt; host.file("h") == Some(history));
+    }
+    Ok(())
+}
+
+#[test]
+fn a_history_is_replayed(rt: HostRuntime) -> Result<(), Fail> {
+    let alloc = rt.alloc();
+    let words = words_of(alloc, &["replay", "c", "h"])?;
+    for (lines, history, input, status, line) in [
+        (C_LINES, HISTORY, b"".as_slice(), 0, "follows 5 events\n"),
+        (
+            C_LINES,
+            b"pulse-history 1\n0 alloc b0 1\n0 load b0.0.0 6\nend 2\n".as_slice(),
+            b"".as_slice(),
+            1,
+            "differs at 1: expected 0 load b0.0.0 5, found 0 load b0.0.0 6\n",
+        ),
+        (
+            C_LINES,
+            b"pulse-history 1\n1 alloc b0 1\nend 1\n".as_slice(),
+            b"".as_slice(),
+            1,
+            "differs at 0: expected nothing, found 1 alloc b0 1\n",
+        ),
+        (
+            C_LINES,
+            b"pulse-history 1\n0 alloc b0 1\nen".as_slice(),
+            b"x".as_slice(),
+            3,
+            "history line 3\n",
+        ),
+        (C_LINES, HISTORY, b"x".as_slice(), 3, "input line 1\n"),
+        (
+            SECOND_BLANK,
+            b"".as_slice(),
+            b"x".as_slice(),
+            3,
+            "C byte 1740\n",
+        ),
+    ] {
+        let files = c_and_history(alloc, c_text(&rt, alloc, lines)?, history)?;
+        let mut host = SteadyHost::new(alloc, files, Vec::from_slice(alloc, input)?);
+        assert_eq!(rt;
+            pulse_main(&rt, alloc, words.as_slice(), &mut host, &NullGate),
+            status
+        );
+        assert_eq!(rt; host.out(), line.as_bytes());
+        assert!(rt; host.file("h") == Some(history));
+    }
+    Ok(())
+}
+
+#[test]
+fn each_call_of_a_run_of_c_fails_once(rt: HostRuntime) -> Result<(), Fail> {
+    let alloc = rt.alloc();
+    let words = words_of(alloc, &["run", "c", "--history", "h"])?;
+    for (k, status, put) in [
+        (0, 4, false),
+        (1, 4, false),
+        (2, 5, false),
+        (3, 5, true),
+        (4, 0, true),
+    ] {
+        let mut fails = Vec::new(alloc);
+        fails.push(k)?;
+        let files = c_and_history(alloc, c_text(&rt, alloc, C_LINES)?, b"")?;
+        let mut host = MemoryHost::new(alloc, files, Vec::new(alloc), fails);
+        assert_eq!(rt;
+            pulse_main(&rt, alloc, words.as_slice(), &mut host, &NullGate),
+            status
+        );
+        assert_eq!(rt; host.file("h") == Some(HISTORY), put);
+        assert_eq!(rt; host.out().is_empty(), status != 0);
+    }
+    Ok(())
+}
+
+#[test]
+fn each_call_of_a_replay_fails_once(rt: HostRuntime) -> Result<(), Fail> {
+    let alloc = rt.alloc();
+    let words = words_of(alloc, &["replay", "c", "h"])?;
+    for (k, status) in [(0, 4), (1, 4), (2, 4), (3, 5), (4, 0)] {
+        let mut fails = Vec::new(alloc);
+        fails.push(k)?;
+        let files = c_and_history(alloc, c_text(&rt, alloc, C_LINES)?, HISTORY)?;
+        let mut host = MemoryHost::new(alloc, files, Vec::new(alloc), fails);
+        assert_eq!(rt;
+            pulse_main(&rt, alloc, words.as_slice(), &mut host, &NullGate),
+            status
+        );
         assert_eq!(rt; host.out().is_empty(), status != 0);
     }
     Ok(())

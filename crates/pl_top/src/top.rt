@@ -1,15 +1,13 @@
 // The top call.
-ghost use Rattle.std.specs.Prelude.{◌≡◌, ◌≢◌, true, Ok, Err, IfOk, OnErr, map, string_bytes};
-ghost use Rattle.std.specs.Io.KnownBytes.{Appends};
+ghost use Rattle.std.specs.Prelude.{◌≡◌, ◌≢◌, Err, map, string_bytes};
 ghost use Rattle.pl_base.specs.Outside.{Counts};
 ghost use Rattle.pl_words.specs.Ranges.{IsInRange};
 ghost use Rattle.pl_words.specs.declared.command.WordError.TheVariants as e;
 ghost use Rattle.pl_top.specs.Telling.{HasCauses, Untouched, is_in, is_out, told_of};
 ghost use Rattle.pl_top.specs.Words.{asked_of, Returns, Runs, IsBuilt};
-ghost use Rattle.pl_top.specs.Lines.{usage_line};
-ghost use Rattle.pl_top.specs.Calls.{Answered, PartDone, Promised, IsExactFor};
+ghost use Rattle.pl_top.specs.Calls.{DidCommand, CommandKeeps, PartDone, Promised, IsExactFor};
 
-use crate::commands::{check_file, emit_file, go_file};
+use crate::commands::{check_file, emit_file, go_file, replay_file, run_file};
 use crate::fetch::{Fault, write_text};
 use crate::lines;
 use crate::words::read_command;
@@ -34,20 +32,19 @@ fn told(answer: Result<u8, Fault>) -> Result<u8, Memory>
 // Answers a command, or says what stopped it.
 fn check_answer<H: Host>(alloc: Global, command: &Command, host: &mut H) -> Result<u8, Fault>
     requires { Returns command.now }
-    ensures answered { IfOk result (Answered command.now (H.files host.old) (H.files host.new) (H.input host.old) (H.input host.new) (H.out host.old) (H.out host.new)) }
-    ensures part { OnErr result (PartDone (Ok command.now) (H.files host.old) (H.files host.new) (H.input host.old) (H.out host.old) (H.out host.new)) }
-    ensures untouched { is_in result ≡ true → Untouched (H.files host.old) (H.files host.new) (H.out host.old) (H.out host.new) }
+    ensures does { DidCommand command.now (H.files host.old) (H.files host.new) (H.input host.old) (H.input host.new) (H.out host.old) (H.out host.new) result }
     ensures in_faults { Counts (is_in result) (H.in_faults host.old) (H.in_faults host.new) }
     ensures out_faults { Counts (is_out result) (H.out_faults host.old) (H.out_faults host.new) }
 {
     match command {
         Command::Check(source, _) => check_file(alloc, source.text(), host),
         Command::Emit(source, name) => emit_file(alloc, source.text(), name.text(), host),
+        Command::Replay(name, history) => replay_file(alloc, name.text(), history.text(), host),
         _ => unreachable!(),
     }
 }
 
-/// Answers `check` or `emit`. It takes no lock, and always returns.
+/// Answers `check`, `emit` or `replay`. It takes no lock, and always returns.
 ///
 /// `check` is done by one worker, whatever the number of jobs: a file has one function.
 ///
@@ -63,12 +60,7 @@ pub fn check_command<R: Threads + Sync, H: Host, G: Gate>(
 ) -> Result<u8, Memory>
     requires returns { Returns command.now }
     requires in_range { IsInRange command.now }
-    ensures answered { IfOk result (λ s. s ≢ 4 → s ≢ 5 → Answered command.now (H.files host.old) (H.files host.new) (H.input host.old) (H.input host.new) (H.out host.old) (H.out host.new) s) }
-    ensures exact { IfOk result (λ s. s ≢ 4 → s ≢ 5 → IsExactFor (Ok command.now) (H.files host.old) (H.input host.old) s) }
-    ensures part { PartDone (Ok command.now) (H.files host.old) (H.files host.new) (H.input host.old) (H.out host.old) (H.out host.new) }
-    ensures untouched { IfOk result (λ s. s ≡ 4 → Untouched (H.files host.old) (H.files host.new) (H.out host.old) (H.out host.new)) }
-    ensures causes { IfOk result (λ s. HasCauses s (H.in_faults host.old) (H.in_faults host.new) (H.out_faults host.old) (H.out_faults host.new)) }
-    ensures memory { OnErr result ((H.in_faults host.new ≡ H.in_faults host.old) × (H.out_faults host.new ≡ H.out_faults host.old)) }
+    ensures { CommandKeeps command.now (H.files host.old) (H.files host.new) (H.input host.old) (H.input host.new) (H.out host.old) (H.out host.new) (H.in_faults host.old) (H.in_faults host.new) (H.out_faults host.old) (H.out_faults host.new) result }
 {
     told(check_answer(alloc, command, host))
 }
@@ -83,13 +75,12 @@ fn run_answer<R: Threads + Wait + Sync, H: Host, G: Gate>(
 ) -> Result<u8, Fault>
     requires runs { Runs command.now }
     requires in_range { IsInRange command.now }
-    ensures answered { IfOk result (Answered command.now (H.files host.old) (H.files host.new) (H.input host.old) (H.input host.new) (H.out host.old) (H.out host.new)) }
-    ensures part { OnErr result (PartDone (Ok command.now) (H.files host.old) (H.files host.new) (H.input host.old) (H.out host.old) (H.out host.new)) }
-    ensures untouched { is_in result ≡ true → Untouched (H.files host.old) (H.files host.new) (H.out host.old) (H.out host.new) }
+    ensures does { DidCommand command.now (H.files host.old) (H.files host.new) (H.input host.old) (H.input host.new) (H.out host.old) (H.out host.new) result }
     ensures in_faults { Counts (is_in result) (H.in_faults host.old) (H.in_faults host.new) }
     ensures out_faults { Counts (is_out result) (H.out_faults host.old) (H.out_faults host.new) }
 {
     match command {
+        Command::Run(name, opts) => run_file(rt, alloc, name.text(), opts, host, gate),
         Command::Go(source, name, opts) => go_file(
             rt,
             alloc,
@@ -103,7 +94,7 @@ fn run_answer<R: Threads + Wait + Sync, H: Host, G: Gate>(
     }
 }
 
-/// Answers `go`. It may wait for its workers, and its promise holds if it returns.
+/// Answers `run` or `go`. It may wait for its workers, and its promise holds if it returns.
 ///
 /// # Errors
 ///
@@ -117,12 +108,7 @@ pub fn run_command<R: Threads + Wait + Sync, H: Host, G: Gate>(
 ) -> Result<u8, Memory>
     requires runs { Runs command.now }
     requires in_range { IsInRange command.now }
-    ensures answered { IfOk result (λ s. s ≢ 4 → s ≢ 5 → Answered command.now (H.files host.old) (H.files host.new) (H.input host.old) (H.input host.new) (H.out host.old) (H.out host.new) s) }
-    ensures exact { IfOk result (λ s. s ≢ 4 → s ≢ 5 → IsExactFor (Ok command.now) (H.files host.old) (H.input host.old) s) }
-    ensures part { PartDone (Ok command.now) (H.files host.old) (H.files host.new) (H.input host.old) (H.out host.old) (H.out host.new) }
-    ensures untouched { IfOk result (λ s. s ≡ 4 → Untouched (H.files host.old) (H.files host.new) (H.out host.old) (H.out host.new)) }
-    ensures causes { IfOk result (λ s. HasCauses s (H.in_faults host.old) (H.in_faults host.new) (H.out_faults host.old) (H.out_faults host.new)) }
-    ensures memory { OnErr result ((H.in_faults host.new ≡ H.in_faults host.old) × (H.out_faults host.new ≡ H.out_faults host.old)) }
+    ensures { CommandKeeps command.now (H.files host.old) (H.files host.new) (H.input host.old) (H.input host.new) (H.out host.old) (H.out host.new) (H.in_faults host.old) (H.in_faults host.new) (H.out_faults host.old) (H.out_faults host.new) result }
 {
     told(run_answer(rt, alloc, command, host, gate))
 }
@@ -130,7 +116,7 @@ pub fn run_command<R: Threads + Wait + Sync, H: Host, G: Gate>(
 // Says that the words are refused.
 fn refuse_words<H: Host>(alloc: Global, kind: UsageKind, place: u32, host: &mut H) -> u8
     ensures answered { result ≢ 4 → result ≢ 5 → result ≢ 6 → Promised (Err (e.Usage kind place)) (H.files host.old) (H.files host.new) (H.input host.old) (H.input host.new) (H.out host.old) (H.out host.new) result }
-    ensures part { PartDone (Err (e.Usage kind place)) (H.files host.old) (H.files host.new) (H.input host.old) (H.out host.old) (H.out host.new) }
+    ensures part { PartDone (Err (e.Usage kind place)) (H.files host.old) (H.files host.new) (H.input host.old) (H.input host.new) (H.out host.old) (H.out host.new) }
     ensures untouched { result ≡ 4 → Untouched (H.files host.old) (H.files host.new) (H.out host.old) (H.out host.new) }
     ensures causes { HasCauses result (H.in_faults host.old) (H.in_faults host.new) (H.out_faults host.old) (H.out_faults host.new) }
 {
@@ -155,15 +141,10 @@ fn answer<R: Threads + Wait + Sync, H: Host, G: Gate>(
 ) -> Result<u8, Memory>
     requires built { IsBuilt command.now }
     requires in_range { IsInRange command.now }
-    ensures answered { IfOk result (λ s. s ≢ 4 → s ≢ 5 → Answered command.now (H.files host.old) (H.files host.new) (H.input host.old) (H.input host.new) (H.out host.old) (H.out host.new) s) }
-    ensures exact { IfOk result (λ s. s ≢ 4 → s ≢ 5 → IsExactFor (Ok command.now) (H.files host.old) (H.input host.old) s) }
-    ensures part { PartDone (Ok command.now) (H.files host.old) (H.files host.new) (H.input host.old) (H.out host.old) (H.out host.new) }
-    ensures untouched { IfOk result (λ s. s ≡ 4 → Untouched (H.files host.old) (H.files host.new) (H.out host.old) (H.out host.new)) }
-    ensures causes { IfOk result (λ s. HasCauses s (H.in_faults host.old) (H.in_faults host.new) (H.out_faults host.old) (H.out_faults host.new)) }
-    ensures memory { OnErr result ((H.in_faults host.new ≡ H.in_faults host.old) × (H.out_faults host.new ≡ H.out_faults host.old)) }
+    ensures { CommandKeeps command.now (H.files host.old) (H.files host.new) (H.input host.old) (H.input host.new) (H.out host.old) (H.out host.new) (H.in_faults host.old) (H.in_faults host.new) (H.out_faults host.old) (H.out_faults host.new) result }
 {
     match command {
-        Command::Go(..) => run_command(rt, alloc, command, host, gate),
+        Command::Run(..) | Command::Go(..) => run_command(rt, alloc, command, host, gate),
         _ => check_command(rt, alloc, command, host, gate),
     }
 }
@@ -172,15 +153,16 @@ fn answer<R: Threads + Wait + Sync, H: Host, G: Gate>(
 ///
 /// | Status | Where |
 /// |---|---|
-/// | 0 | accepted, or a run ended |
-/// | 1 | a duty is left undone |
+/// | 0 | accepted, a run ended, or a history is one of a run |
+/// | 1 | a duty is left undone, or a history is none of a run |
 /// | 2 | the words are refused |
-/// | 3 | the file or the input is refused |
+/// | 3 | a file or the input is refused |
 /// | 4 | a take or read failed |
 /// | 5 | a put or write failed |
 /// | 6 | want of memory |
 /// | 7 | a run came to a deadlock |
 /// | 8 | a run came to its bound |
+/// | 9 | a run of a text of C came to a race or a fault |
 /// | 10 | a limit is passed |
 pub fn pulse_main<R: Threads + Wait + Sync, H: Host, G: Gate>(
     rt: &R,
@@ -191,7 +173,7 @@ pub fn pulse_main<R: Threads + Wait + Sync, H: Host, G: Gate>(
 ) -> u8
     ensures answered { result ≢ 4 → result ≢ 5 → result ≢ 6 → Promised (asked_of (map string_bytes words.now)) (H.files host.old) (H.files host.new) (H.input host.old) (H.input host.new) (H.out host.old) (H.out host.new) result }
     ensures exact { result ≢ 4 → result ≢ 5 → result ≢ 6 → IsExactFor (asked_of (map string_bytes words.now)) (H.files host.old) (H.input host.old) result }
-    ensures part { PartDone (asked_of (map string_bytes words.now)) (H.files host.old) (H.files host.new) (H.input host.old) (H.out host.old) (H.out host.new) }
+    ensures part { PartDone (asked_of (map string_bytes words.now)) (H.files host.old) (H.files host.new) (H.input host.old) (H.input host.new) (H.out host.old) (H.out host.new) }
     ensures untouched { result ≡ 4 → Untouched (H.files host.old) (H.files host.new) (H.out host.old) (H.out host.new) }
     ensures causes { HasCauses result (H.in_faults host.old) (H.in_faults host.new) (H.out_faults host.old) (H.out_faults host.new) }
 {

@@ -1,34 +1,39 @@
-use Rattle.std.proofs.Common.{◌∙◌, []}
-use Rattle.pl_words.specs.declared.command.Command.TheVariants.{Check}
-use Rattle.pl_top.specs.Telling.{given_by, whole}
-use Rattle.pl_top.proofs.Pieces.{on_err_from}
-use Rattle.pl_top.proofs.Judged.{if_ok_from}
-use Rattle.pl_top.proofs.Delivered.{on_err_to, appends_at, part_at}
-use Rattle.pl_top.proofs.Promises.{check_judged, check_reads, says_answered, says_part, nothing_yet}
+use Rattle.std.proofs.Common.{◌∙◌, refl, Err}
+use Rattle.std.proofs.lemmas.Result.{err_from_is_err_and}
+use Rattle.pl_top.specs.declared.fetch.Fault.TheVariants.{Memory}
+use Rattle.pl_top.specs.Checks.{said, IfRefused}
+use Rattle.pl_top.specs.Lines.{accepted, limit_file}
+use Rattle.pl_top.specs.Judging.{Refuses, IsAccepted, checked, not_checked, too_long, taken}
+use Rattle.pl_top.specs.Calls.{none}
+use Rattle.pl_top.proofs.Promises.{did_nothing, did_say, text_at}
 use Rattle.pl_top.proofs.commands.check_file.Goals as goal
 
-pub returns-in_err-file-clause-part : goal.returns-in_err-file-clause-part
-returns-in_err-file-clause-part g c = λ jobs. on_err_from _ _ (nothing_yet (Check c.args.source.now jobs) _ _ _ _ _ c.in_err-file.ensures.same.0 c.in_err-file.ensures.same.2)
+pub returns-in_err-file-clause-does : goal.returns-in_err-file-clause-does
+returns-in_err-file-clause-does g c =
+    let p = err_from_is_err_and c.from_residual.result c.from_residual.ensures.1 in
+    λ jobs. did_nothing _ _ _ _ _ _ c.from_residual.result p.0 p.1 none c.in_err-file.ensures.same.0 c.in_err-file.ensures.same.2
 
-pub returns-in_err-answer-clause-part : goal.returns-in_err-answer-clause-part
-returns-in_err-answer-clause-part g c = λ jobs. on_err_from _ _ (nothing_yet (Check c.args.source.now jobs) _ _ _ _ _ c.in_ok-file.ensures.same.0 c.in_ok-file.ensures.same.2)
+pub returns-in_default-clause-does : goal.returns-in_default-clause-does
+returns-in_default-clause-does g c =
+    λ jobs. did_say _ _ _ _ _ _ _ c.say_too_long.result 10 _ (limit_file 1048577)
+    (too_long (rw c.in_default.is at c.in_ok-file.ensures.takes) (c.say_too_long.ensures.same.1 ∙ c.in_ok-file.ensures.same.1))
+    (c.say_too_long.ensures.same.0 ∙ c.in_ok-file.ensures.same.0) c.in_ok-file.ensures.same.2 refl c.say_too_long.ensures.whole c.say_too_long.ensures.part c.say_too_long.ensures.outward
 
-pub returns-clause-answered : goal.returns-clause-answered
-returns-clause-answered g c =
-    let file = given_by c.in_ok-file.file in
-    λ jobs. if_ok_from c.say.result _ _
-    (λ s w. says_answered (Check c.args.source.now jobs) _ _ _ _ _ _ s c.in_ok-answer.answer.status c.in_ok-answer.answer.text.items
-    (record { file = file; takes = c.in_ok-file.ensures.takes; input = whole []; reads = check_reads file c.args.source.now jobs _ _ (c.say.ensures.same.1 ∙ c.in_ok-file.ensures.same.1); judged = check_judged file c.in_ok-answer.answer c.args.source.now jobs c.in_ok-answer.ensures })
-    (c.say.ensures.same.0 ∙ c.in_ok-file.ensures.same.0)
-    (w.0, appends_at _ _ _ _ _ c.in_ok-file.ensures.same.2 c.as_slice.ensures.value w.1))
-    c.say.ensures.whole
+pub returns-in-Ok-clause-does : goal.returns-in-Ok-clause-does
+returns-in-Ok-clause-does g c =
+    λ jobs. did_say _ _ _ _ _ _ _ c.say.result 0 _ accepted
+    (taken c.in-Bytes.bytes.items (rw c.in-Bytes.is at c.in_ok-file.ensures.takes) _ (c.say.ensures.same.1 ∙ c.in_ok-file.ensures.same.1, checked (text_at IsAccepted _ _ c.as_slice.ensures.value c.in-Ok.ensures.accepted.accepted)))
+    (c.say.ensures.same.0 ∙ c.in_ok-file.ensures.same.0) c.in_ok-file.ensures.same.2 c.accepted.ensures c.say.ensures.whole c.say.ensures.part c.say.ensures.outward
 
-pub returns-clause-part : goal.returns-clause-part
-returns-clause-part g c =
-    let file = given_by c.in_ok-file.file in
-    λ jobs. on_err_to c.say.result _ _
-    (λ w. says_part (Check c.args.source.now jobs) _ _ _ _ _ _ c.in_ok-answer.answer.status c.in_ok-answer.answer.text.items
-    (record { file = file; takes = c.in_ok-file.ensures.takes; input = whole []; reads = check_reads file c.args.source.now jobs _ _ (c.say.ensures.same.1 ∙ c.in_ok-file.ensures.same.1); judged = check_judged file c.in_ok-answer.answer c.args.source.now jobs c.in_ok-answer.ensures })
-    (c.say.ensures.same.0 ∙ c.in_ok-file.ensures.same.0)
-    (part_at _ _ _ _ _ c.in_ok-file.ensures.same.2 c.as_slice.ensures.value w))
-    c.say.ensures.part
+pub returns-in-Err-Refused-clause-does : goal.returns-in-Err-Refused-clause-does
+returns-in-Err-Refused-clause-does g c =
+    let arm = c.in-Err-Refused in
+    let say = c.say-in-Err-Refused in
+    let refused = text_at (λ b. Refuses b (said arm.answer)) _ _ c.as_slice.ensures.value (rw arm.field-0-is at arm.ensures.refused) in
+    λ jobs. did_say _ _ _ _ _ _ _ say.result arm.answer.status _ arm.answer.text.items
+    (taken c.in-Bytes.bytes.items (rw c.in-Bytes.is at c.in_ok-file.ensures.takes) _ (say.ensures.same.1 ∙ c.in_ok-file.ensures.same.1, not_checked _ refused))
+    (say.ensures.same.0 ∙ c.in_ok-file.ensures.same.0) c.in_ok-file.ensures.same.2 c.as_slice-in-Err-Refused.ensures.value say.ensures.whole say.ensures.part say.ensures.outward
+
+pub returns-clause-does : goal.returns-clause-does
+returns-clause-does g c =
+    λ jobs. did_nothing _ _ _ _ _ _ (Err Memory) Memory refl none c.in_ok-file.ensures.same.0 c.in_ok-file.ensures.same.2

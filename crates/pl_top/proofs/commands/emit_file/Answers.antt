@@ -1,63 +1,57 @@
-use Rattle.std.proofs.Common.{◌∙◌, [], refl}
-use Rattle.pl_words.specs.declared.command.Command.TheVariants.{Emit}
-use Rattle.pl_top.specs.Telling.{given_by, whole}
-use Rattle.pl_top.proofs.Pieces.{on_err_from}
-use Rattle.pl_top.proofs.Judged.{if_ok_from}
-use Rattle.pl_top.proofs.Delivered.{on_err_to, appends_at, part_at}
-use Rattle.pl_top.proofs.Promises.{emit_judged, emit_reads, says_answered, says_part, nothing_yet, emitted_answered, emitted_part, emit_failed, others_at, puts_from}
+use Rattle.std.proofs.Common.{◌≡◌, ◌∙◌, [], refl, Err}
+use Rattle.std.proofs.lemmas.Result.{err_from_is_err_and}
+use Rattle.c_syntax.specs.Plain.{plain_program}
+use Rattle.pl_top.specs.declared.fetch.Fault.TheVariants.{Memory}
+use Rattle.pl_top.specs.Checks.{said}
+use Rattle.pl_top.specs.Lines.{accepted, limit_file}
+use Rattle.pl_top.specs.Judging.{says, put_text, Refuses, not_emitted, too_long, taken}
+use Rattle.pl_top.specs.Calls.{none, emit_text}
+use Rattle.pl_top.specs.Goes.{IsProgramOf}
+use Rattle.pl_top.proofs.Delivered.{puts_from, others_at}
+use Rattle.pl_top.proofs.Promises.{did_nothing, did_say, did_not_put, did_behind, did_from, emit_did, text_at, same_in}
 use Rattle.pl_top.proofs.commands.emit_file.Goals as goal
 
-pub returns-in_err-file-clause-part : goal.returns-in_err-file-clause-part
-returns-in_err-file-clause-part g c = on_err_from _ _ (nothing_yet (Emit c.args.source.now c.args.name.now) _ _ _ _ _ c.in_err-file.ensures.same.0 c.in_err-file.ensures.same.2)
+pub returns-in_err-file-clause-does : goal.returns-in_err-file-clause-does
+returns-in_err-file-clause-does g c =
+    let p = err_from_is_err_and c.from_residual.result c.from_residual.ensures.1 in
+    did_nothing _ _ _ _ _ _ c.from_residual.result p.0 p.1 none c.in_err-file.ensures.same.0 c.in_err-file.ensures.same.2
 
-pub returns-in_err-emitted-clause-part : goal.returns-in_err-emitted-clause-part
-returns-in_err-emitted-clause-part g c = on_err_from _ _ (nothing_yet (Emit c.args.source.now c.args.name.now) _ _ _ _ _ c.in_ok-file.ensures.same.0 c.in_ok-file.ensures.same.2)
+pub returns-in_default-clause-does : goal.returns-in_default-clause-does
+returns-in_default-clause-does g c =
+    did_say _ _ _ _ _ _ _ c.say_too_long.result 10 _ (limit_file 1048577)
+    (too_long (rw c.in_default.is at c.in_ok-file.ensures.takes) (c.say_too_long.ensures.same.1 ∙ c.in_ok-file.ensures.same.1))
+    (c.say_too_long.ensures.same.0 ∙ c.in_ok-file.ensures.same.0) c.in_ok-file.ensures.same.2 refl c.say_too_long.ensures.whole c.say_too_long.ensures.part c.say_too_long.ensures.outward
 
-pub returns-in_err-put_file-in-Emits-clause-part : goal.returns-in_err-put_file-in-Emits-clause-part
-returns-in_err-put_file-in-Emits-clause-part g c =
-    on_err_from _ _ (emit_failed (given_by c.in_ok-file.file) c.in-Emits.emitted c.args.source.now c.args.name.now _ _ _ _ _ c.in_ok-file.ensures.takes (rw c.in-Emits.is at c.in_ok-emitted.ensures)
-    (others_at _ _ _ _ c.in_ok-file.ensures.same.0 c.in_err-put_file-in-Emits.ensures.others) (c.in_err-put_file-in-Emits.ensures.same.1 ∙ c.in_ok-file.ensures.same.2))
+pub returns-in_err-put_file-in-Ok-clause-does : goal.returns-in_err-put_file-in-Ok-clause-does
+returns-in_err-put_file-in-Ok-clause-does g c =
+    let put = c.in_err-put_file-in-Ok in
+    let p = err_from_is_err_and c.from_residual-in_err-put_file-in-Ok.result c.from_residual-in_err-put_file-in-Ok.ensures.1 in
+    let program = text_at (λ b. IsProgramOf b c.in-Ok.emitted) _ _ c.as_slice.ensures.value c.in-Ok.ensures.emits in
+    did_not_put _ _ _ _ _ _ c.from_residual-in_err-put_file-in-Ok.result p.0 (put_text c.args.name.now (plain_program c.in-Ok.emitted.program)) p.1 (same_in _ _ p.2 put.ensures.outward)
+    (emit_text (plain_program c.in-Ok.emitted.program) (record { bytes = c.in-Bytes.bytes.items; takes = (rw c.in-Bytes.is at c.in_ok-file.ensures.takes); emitted = program.program }))
+    (others_at _ _ _ _ c.in_ok-file.ensures.same.0 put.ensures.others)
+    (put.ensures.same.1 ∙ c.in_ok-file.ensures.same.2)
 
-pub returns-in-Emits-clause-answered : goal.returns-in-Emits-clause-answered
-returns-in-Emits-clause-answered g c =
-    let put = c.in_ok-put_file-in-Emits in
-    if_ok_from c.say.result _ _
-    (λ s w. emitted_answered (given_by c.in_ok-file.file) c.in-Emits.emitted c.args.source.now c.args.name.now _ _ _ _ _ _ _ s c.in_ok-file.ensures.takes (c.say.ensures.same.1 ∙ put.ensures.same.0 ∙ c.in_ok-file.ensures.same.1)
-    (rw c.in-Emits.is at c.in_ok-emitted.ensures)
-    (puts_from _ _ _ _ _ _ c.in_ok-file.ensures.same.0 c.as_slice.ensures.value put.ensures.puts)
-    c.say.ensures.same.0
-    (w.0, appends_at _ _ _ _ _ (put.ensures.same.1 ∙ c.in_ok-file.ensures.same.2) refl w.1))
-    c.say.ensures.whole
+pub returns-in-Ok-clause-does : goal.returns-in-Ok-clause-does
+returns-in-Ok-clause-does g c =
+    let e = c.in-Ok.emitted in
+    let put = c.in_ok-put_file-in-Ok in
+    let program = text_at (λ b. IsProgramOf b e) _ _ c.as_slice.ensures.value c.in-Ok.ensures.emits in
+    emit_did c.args.source.now c.args.name.now c.in-Bytes.bytes.items e _ _ _ _ _ _ c.say.result (rw c.in-Bytes.is at c.in_ok-file.ensures.takes) (c.say.ensures.same.1 ∙ put.ensures.same.0 ∙ c.in_ok-file.ensures.same.1) program
+    (did_behind (put_text c.args.name.now (plain_program e.program)) _ _ _ _ _ _ _ c.say.result
+    (puts_from _ _ _ _ _ _ c.in_ok-file.ensures.same.0 (c.as_slice-in-Ok.ensures.value ∙ program.text) put.ensures.puts)
+    c.say.ensures.outward
+    (did_say (λ puts. puts ≡ []) (λ o. o ≡ says 0 accepted) _ _ _ _ _ c.say.result 0 _ accepted refl c.say.ensures.same.0 (put.ensures.same.1 ∙ c.in_ok-file.ensures.same.2) c.accepted.ensures c.say.ensures.whole c.say.ensures.part c.say.ensures.outward))
 
-pub returns-in-Emits-clause-part : goal.returns-in-Emits-clause-part
-returns-in-Emits-clause-part g c =
-    let put = c.in_ok-put_file-in-Emits in
-    on_err_to c.say.result _ _
-    (λ w. emitted_part (given_by c.in_ok-file.file) c.in-Emits.emitted c.args.source.now c.args.name.now _ _ _ _ _ _ _ c.in_ok-file.ensures.takes (c.say.ensures.same.1 ∙ put.ensures.same.0 ∙ c.in_ok-file.ensures.same.1)
-    (rw c.in-Emits.is at c.in_ok-emitted.ensures)
-    (puts_from _ _ _ _ _ _ c.in_ok-file.ensures.same.0 c.as_slice.ensures.value put.ensures.puts)
-    c.say.ensures.same.0
-    (part_at _ _ _ _ _ (put.ensures.same.1 ∙ c.in_ok-file.ensures.same.2) refl w))
-    c.say.ensures.part
+pub returns-in-Err-Refused-clause-does : goal.returns-in-Err-Refused-clause-does
+returns-in-Err-Refused-clause-does g c =
+    let arm = c.in-Err-Refused in
+    let say = c.say-in-Err-Refused in
+    let refused = text_at (λ b. Refuses b (said arm.answer)) _ _ c.as_slice.ensures.value (rw arm.field-0-is at arm.ensures.refused) in
+    did_say _ _ _ _ _ _ _ say.result arm.answer.status _ arm.answer.text.items
+    (taken c.in-Bytes.bytes.items (rw c.in-Bytes.is at c.in_ok-file.ensures.takes) _ (say.ensures.same.1 ∙ c.in_ok-file.ensures.same.1, not_emitted _ refused))
+    (say.ensures.same.0 ∙ c.in_ok-file.ensures.same.0) c.in_ok-file.ensures.same.2 c.as_slice-in-Err-Refused.ensures.value say.ensures.whole say.ensures.part say.ensures.outward
 
-pub returns-clause-answered : goal.returns-clause-answered
-returns-clause-answered g c =
-    let file = given_by c.in_ok-file.file in
-    let say = c.say-in-Refused in
-    if_ok_from say.result _ _
-    (λ s w. says_answered (Emit c.args.source.now c.args.name.now) _ _ _ _ _ _ s c.in-Refused.answer.status c.in-Refused.answer.text.items
-    (record { file = file; takes = c.in_ok-file.ensures.takes; input = whole []; reads = emit_reads file c.args.source.now c.args.name.now _ _ (say.ensures.same.1 ∙ c.in_ok-file.ensures.same.1); judged = emit_judged file c.in-Refused.answer c.args.source.now c.args.name.now (rw c.in-Refused.is at c.in_ok-emitted.ensures) })
-    (say.ensures.same.0 ∙ c.in_ok-file.ensures.same.0)
-    (w.0, appends_at _ _ _ _ _ c.in_ok-file.ensures.same.2 c.as_slice-in-Refused.ensures.value w.1))
-    say.ensures.whole
-
-pub returns-clause-part : goal.returns-clause-part
-returns-clause-part g c =
-    let file = given_by c.in_ok-file.file in
-    let say = c.say-in-Refused in
-    on_err_to say.result _ _
-    (λ w. says_part (Emit c.args.source.now c.args.name.now) _ _ _ _ _ _ c.in-Refused.answer.status c.in-Refused.answer.text.items
-    (record { file = file; takes = c.in_ok-file.ensures.takes; input = whole []; reads = emit_reads file c.args.source.now c.args.name.now _ _ (say.ensures.same.1 ∙ c.in_ok-file.ensures.same.1); judged = emit_judged file c.in-Refused.answer c.args.source.now c.args.name.now (rw c.in-Refused.is at c.in_ok-emitted.ensures) })
-    (say.ensures.same.0 ∙ c.in_ok-file.ensures.same.0)
-    (part_at _ _ _ _ _ c.in_ok-file.ensures.same.2 c.as_slice-in-Refused.ensures.value w))
-    say.ensures.part
+pub returns-clause-does : goal.returns-clause-does
+returns-clause-does g c =
+    did_nothing _ _ _ _ _ _ (Err Memory) Memory refl none c.in_ok-file.ensures.same.0 c.in_ok-file.ensures.same.2

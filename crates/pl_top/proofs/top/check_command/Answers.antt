@@ -1,17 +1,5 @@
-use Rattle.std.proofs.Common.{ℕ, ◌≢◌, sym, subst}
-use Rattle.std.specs.Prelude.{Result, Ok, IfOk}
-use Rattle.pl_base.specs.declared.pos.Memory.{Memory}
-use Rattle.pl_top.specs.Calls.{IsExactFor}
-use Rattle.pl_top.proofs.Judged.{if_ok_from}
-use Rattle.pl_top.proofs.Exact.{answered_exactly}
-use Rattle.pl_top.proofs.Statuses.{told_answered, told_part}
+use Rattle.pl_top.proofs.Statuses.{told_keeps}
 use Rattle.pl_top.proofs.top.check_command.Goals as goal
 
-pub returns-clause-exact : goal.returns-clause-exact
-returns-clause-exact g c =
-    let Exact : ℕ → Type 0 = λ s. IsExactFor (Ok c.args.command.now) (g.H.Host.files c.args.host.now) (g.H.Host.input c.args.host.now) s in
-    let P : Result ℕ Memory → Type 0 = λ r. IfOk r (λ s. s ≢ 4 → s ≢ 5 → Exact s) in
-    subst P (sym c.told.ensures) (told_answered Exact c.check_answer.result (if_ok_from c.check_answer.result _ Exact (λ s a. answered_exactly c.args.command.now _ _ _ _ _ _ s a) c.check_answer.ensures.answered))
-
-pub returns-clause-part : goal.returns-clause-part
-returns-clause-part g c = told_part c.args.command.now _ _ _ _ _ _ c.check_answer.result c.check_answer.ensures.answered c.check_answer.ensures.part
+pub returns : goal.returns
+returns g c = told_keeps c.args.command.now _ _ _ _ _ _ _ _ _ _ c.check_answer.result c.told.result c.told.ensures c.check_answer.ensures.does c.check_answer.ensures.in_faults c.check_answer.ensures.out_faults
