@@ -31,7 +31,7 @@ plain_expr (Bin' op q a r b) = t.Bin op (plain_expr a) (plain_expr b)
 -- a cell
 abbrev pub plain_cell : cell.Cell → t.Cell
 plain_cell (Whole base) = t.Whole base
-plain_cell (At base index) = t.At base (plain_expr index)
+plain_cell (At base index) = t.At base (plain_expr (box_value index))
 plain_cell (Field base member) = t.Field base member
 
 -- what stands behind a `=`
@@ -39,13 +39,13 @@ abbrev pub plain_right : right.Right → t.Right
 plain_right (r.Value e) = t.Value (plain_expr e)
 plain_right (r.Load c) = t.Load (plain_cell c)
 plain_right (r.New maker e) = t.New maker (plain_expr e)
-plain_right (r.Array e count) = t.Array (plain_expr e) (plain_expr count)
+plain_right (r.Array e count) = t.Array (plain_expr e) (plain_expr (box_value count))
 plain_right (r.Struct s) = t.Structure s
 plain_right r.Lock = t.Lock
 plain_right (r.Call f args) = t.Call f (map plain_expr args)
 plain_right (r.AtomicLoad base) = t.AtomicLoad base
 plain_right r.Read = t.Read
-plain_right (r.Cas base old new) = t.Cas base (plain_expr old) (plain_expr new)
+plain_right (r.Cas base old new) = t.Cas base (plain_expr (box_value old)) (plain_expr (box_value new))
 
 -- a line in the head of a loop
 abbrev pub plain_load : load.Load → t.LoadLine

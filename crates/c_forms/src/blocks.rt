@@ -13,6 +13,7 @@ use crate::exprs::expr;
 use crate::lines::{
     bind_bool, bind_i64, bind_struct, line_a, line_f, line_p, line_r, line_v, store_whole,
 };
+use crate::lists::exact;
 use crate::loops::loop_heads;
 use crate::pars::par;
 use crate::stmt::Stmt;
@@ -67,7 +68,7 @@ fn more_rows(
         all.push(item)?;
         rest = behind;
     }
-    Ok((Items::of(all), rest))
+    Ok((exact(all), rest))
 }
 
 /// The statements of a block that stands at this level, with the indentation of the line behind them.

@@ -10,6 +10,7 @@ ghost use Rattle.c_forms.specs.ExprReaders as spec;
 ghost use Rattle.c_forms.specs.Plain.{plain_expr, plain_cell};
 
 use crate::exprs::expr;
+use crate::lists::exact;
 use crate::names::name;
 use crate::word::{Cell, Expr, Local};
 use crate::words::local;
@@ -43,7 +44,7 @@ pub fn cell_behind(alloc: Global, base: Local, bytes: &[u8]) -> Result<(Cell, &[
 {
     if begins(bytes, b'[') {
         let (index, rest) = index(alloc, bytes)?;
-        return Ok((Cell::At(base, index), rest));
+        return Ok((Cell::At(base, Box::new(alloc, index)?), rest));
     }
     let (member, rest) = field(alloc, bytes)?;
     Ok((Cell::Field(base, member), rest))
@@ -85,7 +86,7 @@ fn more_exprs(
         all.push(item)?;
         rest = behind;
     }
-    Ok((Items::of(all), rest))
+    Ok((exact(all), rest))
 }
 
 /// Expressions with commas between them.

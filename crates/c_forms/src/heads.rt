@@ -8,6 +8,7 @@ ghost use Rattle.c_forms.specs.Reading.{after};
 ghost use Rattle.c_forms.specs.ExprReaders.{listed};
 ghost use Rattle.c_forms.specs.SourceReaders as spec;
 
+use crate::lists::exact;
 use crate::names::name;
 use crate::source::{Head, Param};
 use crate::words::{any_type, local, shown_type};
@@ -70,7 +71,7 @@ fn more_params(
         all.push(item)?;
         rest = behind;
     }
-    Ok((Items::of(all), rest))
+    Ok((exact(all), rest))
 }
 
 /// Parameters of which the first is of type `void`, behind that word.

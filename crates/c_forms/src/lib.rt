@@ -7,6 +7,7 @@ mod error;
 mod exprs;
 mod heads;
 mod lines;
+mod lists;
 mod loops;
 mod names;
 mod pars;

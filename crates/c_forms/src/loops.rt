@@ -10,6 +10,7 @@ ghost use Rattle.c_forms.specs.Plain.{plain_expr, plain_line, plain_load};
 use crate::blocks::indent;
 use crate::cells::cell;
 use crate::exprs::expr;
+use crate::lists::exact;
 use crate::stmt::Load;
 use crate::word::Expr;
 use crate::words::{i64_tail, local, other_type};
@@ -114,7 +115,7 @@ fn loop_head(
                 all.push(load)?;
                 rest = behind;
             }
-            HeadLine::Test(test) => return Ok(((Items::of(all), test), behind)),
+            HeadLine::Test(test) => return Ok(((exact(all), test), behind)),
         }
     }
 }

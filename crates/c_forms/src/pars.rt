@@ -10,6 +10,7 @@ ghost use Rattle.c_forms.specs.Plain.{plain_expr, plain_argument, plain_stmt};
 use crate::blocks::indent;
 use crate::cells::call;
 use crate::lines::stored;
+use crate::lists::exact;
 use crate::names::name;
 use crate::stmt::{Argument, Par, Stmt};
 use crate::word::Expr;
@@ -55,7 +56,7 @@ fn more_arguments(
         all.push(item)?;
         rest = behind;
     }
-    Ok((Items::of(all), rest))
+    Ok((exact(all), rest))
 }
 
 /// All lines that hand arguments over, with the indentation of the line behind them.

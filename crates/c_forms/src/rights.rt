@@ -37,7 +37,7 @@ fn right_behind(alloc: Global, x: Local, bytes: &[u8]) -> Result<(Right, &[u8]),
 {
     if begins(bytes, b'[') {
         let (index, rest) = index(alloc, bytes)?;
-        return Ok((Right::Load(Cell::At(x, index)), rest));
+        return Ok((Right::Load(Cell::At(x, Box::new(alloc, index)?)), rest));
     }
     if begins(bytes, b'-') {
         let (member, rest) = field(alloc, bytes)?;
@@ -99,7 +99,7 @@ fn right_array(alloc: Global, bytes: &[u8]) -> Result<(Right, &[u8]), ReadError>
     let rest = word(rest, b", ")?;
     let (count, rest) = expr(alloc, rest)?;
     let rest = word(rest, b")")?;
-    Ok((Right::Array(value, count), rest))
+    Ok((Right::Array(value, Box::new(alloc, count)?), rest))
 }
 
 /// A compare-and-swap, behind `p_`.
@@ -114,7 +114,10 @@ fn right_cas(alloc: Global, bytes: &[u8]) -> Result<(Right, &[u8]), ReadError>
     let rest = word(rest, b", ")?;
     let (new, rest) = expr(alloc, rest)?;
     let rest = word(rest, b")")?;
-    Ok((Right::Cas(base, old, new), rest))
+    Ok((
+        Right::Cas(base, Box::new(alloc, old)?, Box::new(alloc, new)?),
+        rest,
+    ))
 }
 
 /// What a function of the prelude gives, where the local is of this type.

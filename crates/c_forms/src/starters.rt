@@ -8,6 +8,7 @@ ghost use Rattle.c_forms.specs.Reading.{after};
 ghost use Rattle.c_forms.specs.ExprReaders.{decimal_number, list_of, listed};
 ghost use Rattle.c_forms.specs.SourceReaders as spec;
 
+use crate::lists::exact;
 use crate::names::name;
 use crate::source::{Slot, Starter};
 use crate::word::Number;
@@ -41,7 +42,7 @@ fn more_slots(alloc: Global, bytes: &[u8]) -> Result<(Items<Slot>, &[u8]), ReadE
         all.push(item)?;
         rest = behind;
     }
-    Ok((Items::of(all), rest))
+    Ok((exact(all), rest))
 }
 
 /// A structure of arguments behind `struct a_`.
@@ -98,7 +99,7 @@ fn more_handed(
         all.push(item)?;
         rest = behind;
     }
-    Ok((Items::of(all), rest))
+    Ok((exact(all), rest))
 }
 
 /// Numbers of arguments with commas between them.

@@ -21,7 +21,7 @@ pub enum Right {
     /// `p_new_i64(e)` and its like
     New(Maker, Expr),
     /// `p_array(e, n)`
-    Array(Expr, Expr),
+    Array(Expr, Box<Expr>),
     /// `p_get(sizeof(struct s_S))`
     Struct(Name),
     /// `p_lock_new()`
@@ -33,7 +33,7 @@ pub enum Right {
     /// `p_read()`, where the type is `int64_t`
     Read,
     /// `p_cas(a, d, e)`, where the type is `bool`
-    Cas(Local, Expr, Expr),
+    Cas(Local, Box<Expr>, Box<Expr>),
 }
 
 /// A line in the head of a loop: `T x = c;`

@@ -6,6 +6,7 @@ ghost use Rattle.pl_readers.specs.Given.{Gives};
 ghost use Rattle.pl_readers.specs.Reader.{onto, repeat};
 ghost use Rattle.c_forms.specs.SourceReaders as spec;
 
+use crate::lists::exact;
 use crate::names::name;
 use crate::source::{Member, Struct};
 use crate::words::any_type;
@@ -41,7 +42,7 @@ fn more_members(
         all.push(item)?;
         rest = behind;
     }
-    Ok((Items::of(all), rest))
+    Ok((exact(all), rest))
 }
 
 /// One member at least, and the end of the structure.

@@ -34,8 +34,8 @@ pub enum Expr {
 pub enum Cell {
     /// `*r`
     Whole(Local),
-    /// `a[i]`
-    At(Local, Expr),
+    /// `a[i]`; the index is boxed, since most cells have none.
+    At(Local, Box<Expr>),
     /// `p->m_f`
     Field(Local, Name),
 }

@@ -11,7 +11,7 @@ use Rattle.c_reader.specs.declared.blocks.Bare.{Bare}
 
 -- a block whose first values are gathered
 abbrev pub gathered_of : Gathering → Gathered
-gathered_of g = record { local = g.local.now; structure = g.structure.now; inits = map plain_init g.inits.items; members = map member_of g.members.now }
+gathered_of g = record { local = g.local; structure = g.structure; inits = map plain_init g.inits.items; members = map member_of g.members.now }
 
 abbrev pub gathering : Option Gathering → Option Gathered
 gathering None = None

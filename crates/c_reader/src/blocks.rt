@@ -12,7 +12,7 @@ ghost use Rattle.c_reader.specs.Gathers.{first_value, gathered_of, gathering, st
 
 use crate::exprs::expr_of;
 use crate::lines::{atomic_store_of, bind_of, call_of, loads_of, par_of, store_of};
-use crate::words::{copy_name, local_of};
+use crate::words::{copy_local, copy_name, local_of};
 use c_forms::{Local, Member, Right, Stmt};
 use c_rules::{FirstValue, next_member, value_line};
 use c_syntax::{CInit, CStmt};
@@ -26,12 +26,13 @@ pub(crate) struct Structs<'a> {
     pub table: HashMap<&'a str, &'a [Member]>,
 }
 
-/// A structure's block whose first values are gathered.
+/// A structure's block whose first values are gathered. It borrows nothing of its lines, so that each can be let go of once
+/// it is converted.
 #[derive(Drop)]
 pub(crate) struct Gathering<'a> {
     /// The local that it is bound to.
-    pub local: &'a Local,
-    pub structure: &'a Name,
+    pub local: Local,
+    pub structure: Name,
     /// The first values so far.
     pub inits: Vec<CInit>,
     /// The members that are left.
@@ -111,8 +112,7 @@ fn block_of(alloc: Global, g: Gathering<'_>) -> Result<CStmt, Memory>
         inits,
         ..
     } = g;
-    let local = local_of(alloc, local)?;
-    let structure = copy_name(alloc, structure)?;
+    let local = local_of(alloc, &local)?;
     Ok(CStmt::NewStruct(local, structure, Items::of(inits)))
 }
 
@@ -139,10 +139,10 @@ fn settle<'a>(
 /// A statement that stands for itself.
 #[cycle(blocks)]
 #[tactic(auto, using(crate::proofs::FollowLaws::follow_end, crate::proofs::FollowLaws::follow_push))]
-fn put_stmt<'a>(
-    s: &'a Stmt,
+fn put_stmt(
+    s: &Stmt,
     alloc: Global,
-    structs: &Structs<'a>,
+    structs: &Structs<'_>,
     out: &mut Vec<CStmt>,
 ) -> Result<(), Memory>
     ensures { OnOk result ((rest : t.Stmts) →
@@ -156,8 +156,8 @@ fn put_stmt<'a>(
 /// A line where that is gathered.
 #[cycle(blocks)]
 #[tactic(auto, using(crate::proofs::FollowLaws::follow_end, crate::proofs::FollowLaws::follow_push))]
-fn put_line<'a>(
-    s: &'a Stmt,
+pub(crate) fn put_line<'a>(
+    s: &Stmt,
     alloc: Global,
     structs: &Structs<'a>,
     out: &mut Vec<CStmt>,
@@ -174,7 +174,7 @@ fn put_line<'a>(
         put_stmt(s, alloc, structs, out)?;
         return Ok(None);
     };
-    let Some(v) = value_line(g.local, s) else {
+    let Some(v) = value_line(&g.local, s) else {
         put_stmt(s, alloc, structs, out)?;
         return Ok(None);
     };
@@ -186,7 +186,7 @@ fn put_line<'a>(
 #[cycle(blocks)]
 #[tactic(auto, using(crate::proofs::FollowLaws::follow_end, crate::proofs::FollowLaws::follow_push))]
 fn put_plain<'a>(
-    s: &'a Stmt,
+    s: &Stmt,
     alloc: Global,
     structs: &Structs<'a>,
     out: &mut Vec<CStmt>,
@@ -201,11 +201,12 @@ fn put_plain<'a>(
             Ok(None)
         }
         Some(bare) => {
+            let members = members(structs, bare.structure);
             let g = Gathering {
-                local: bare.local,
-                structure: bare.structure,
-                inits: Vec::new(alloc),
-                members: members(structs, bare.structure),
+                local: copy_local(alloc, bare.local)?,
+                structure: copy_name(alloc, bare.structure)?,
+                inits: Vec::with_capacity(alloc, members.len())?,
+                members,
             };
             settle(alloc, out, g)
         }
@@ -215,25 +216,26 @@ fn put_plain<'a>(
 /// The statements in a row.
 #[cycle(blocks)]
 #[tactic(auto, using(crate::proofs::FollowLaws::follow_end, crate::proofs::FollowLaws::follow_push))]
-pub(crate) fn stmts_of<'a>(
-    list: &'a [Stmt],
+pub(crate) fn stmts_of(
+    list: &[Stmt],
     alloc: Global,
-    structs: &Structs<'a>,
+    structs: &Structs<'_>,
 ) -> Result<Items<CStmt>, Memory>
     ensures { IfOk result (λ made. plain_stmts made ≡ spec.stmts_of (structs_in structs.now.table) (written.plain_stmts list.now) None) }
 {
-    let mut out = Vec::new(alloc);
+    let mut out = Vec::with_capacity(alloc, list.len())?;
     let mut gathered = None;
     for s in list {
         gathered = put_line(s, alloc, structs, &mut out, gathered)?;
     }
+    out.shrink_to_fit();
     Ok(Items::of(out))
 }
 
 /// The statement that a line stands for by itself.
 #[cycle(blocks)]
 #[tactic(auto, using(crate::proofs::FollowLaws::follow_end, crate::proofs::FollowLaws::follow_push))]
-fn stmt_of<'a>(s: &'a Stmt, alloc: Global, structs: &Structs<'a>) -> Result<CStmt, Memory>
+fn stmt_of(s: &Stmt, alloc: Global, structs: &Structs<'_>) -> Result<CStmt, Memory>
     ensures { IfOk result (λ made. plain_stmt made ≡ spec.stmt_of (structs_in structs.now.table) (written.plain_stmt s.now)) }
 {
     match s {

@@ -20,7 +20,7 @@ use std::alloc::Global;
 fn members_of(alloc: Global, list: &[Member]) -> Result<Items<CMember>, Memory>
     ensures { IfOk result (λ made. made ≡ map member_of list.now) }
 {
-    let mut made = Vec::new(alloc);
+    let mut made = Vec::with_capacity(alloc, list.len())?;
     for m in list {
         let name = copy_name(alloc, &m.name)?;
         let kind = copy_type(alloc, &m.kind)?;
@@ -30,10 +30,10 @@ fn members_of(alloc: Global, list: &[Member]) -> Result<Items<CMember>, Memory>
 }
 
 /// The structures that are written.
-fn structs_of(alloc: Global, list: &[Struct]) -> Result<Items<CStruct>, Memory>
+pub(crate) fn structs_of(alloc: Global, list: &[Struct]) -> Result<Items<CStruct>, Memory>
     ensures { IfOk result (λ made. made ≡ map rules.struct_of list.now) }
 {
-    let mut made = Vec::new(alloc);
+    let mut made = Vec::with_capacity(alloc, list.len())?;
     for d in list {
         let name = copy_name(alloc, &d.name)?;
         let members = members_of(alloc, d.members.as_slice())?;
@@ -43,10 +43,10 @@ fn structs_of(alloc: Global, list: &[Struct]) -> Result<Items<CStruct>, Memory>
 }
 
 /// The parameters that are written.
-fn params_of(alloc: Global, list: &[Param]) -> Result<Items<CParam>, Memory>
+pub(crate) fn params_of(alloc: Global, list: &[Param]) -> Result<Items<CParam>, Memory>
     ensures { IfOk result (λ made. made ≡ map spec.param_of list.now) }
 {
-    let mut made = Vec::new(alloc);
+    let mut made = Vec::with_capacity(alloc, list.len())?;
     for p in list {
         let local = local_of(alloc, &p.local)?;
         let kind = copy_type(alloc, &p.kind)?;
@@ -56,7 +56,7 @@ fn params_of(alloc: Global, list: &[Param]) -> Result<Items<CParam>, Memory>
 }
 
 /// The function that is written.
-fn fun_of<'a>(alloc: Global, structs: &Structs<'a>, f: &'a Fun) -> Result<CFun, Memory>
+fn fun_of(alloc: Global, structs: &Structs<'_>, f: &Fun) -> Result<CFun, Memory>
     ensures { IfOk result (λ made. plain_fun made ≡ spec.fun_of (structs_in structs.now.table) (written.plain_fun f.now)) }
 {
     let name = copy_name(alloc, &f.head.name)?;
@@ -72,10 +72,10 @@ fn fun_of<'a>(alloc: Global, structs: &Structs<'a>, f: &'a Fun) -> Result<CFun, 
 }
 
 /// The functions that are written.
-fn funs_of<'a>(alloc: Global, structs: &Structs<'a>, list: &'a [Fun]) -> Result<Items<CFun>, Memory>
+fn funs_of(alloc: Global, structs: &Structs<'_>, list: &[Fun]) -> Result<Items<CFun>, Memory>
     ensures { IfOk result (λ made. map plain_fun made ≡ map (spec.fun_of (structs_in structs.now.table)) (map written.plain_fun list.now)) }
 {
-    let mut made = Vec::new(alloc);
+    let mut made = Vec::with_capacity(alloc, list.len())?;
     for f in list {
         let next = fun_of(alloc, structs, f)?;
         made.push(next)?;

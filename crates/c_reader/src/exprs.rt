@@ -45,7 +45,7 @@ pub(crate) fn expr_of(alloc: Global, e: &Expr) -> Result<CExpr, Memory>
 pub(crate) fn exprs_of(alloc: Global, list: &[Expr]) -> Result<Items<CExpr>, Memory>
     ensures { IfOk result (λ made. map plain_expr made ≡ map spec.expr_of (map written.plain_expr list.now)) }
 {
-    let mut made = Vec::new(alloc);
+    let mut made = Vec::with_capacity(alloc, list.len())?;
     for e in list {
         let next = expr_of(alloc, e)?;
         made.push(next)?;

@@ -3,6 +3,7 @@
 
 mod blocks;
 mod build;
+mod consume;
 mod error;
 mod exprs;
 mod lines;

@@ -140,7 +140,7 @@ pub(crate) fn bind_of(
 pub(crate) fn loads_of(alloc: Global, list: &[Load]) -> Result<Items<CStmt>, Memory>
     ensures { IfOk result (λ made. plain_stmts made ≡ spec.loads_of (map written.plain_load list.now)) }
 {
-    let mut made = Vec::new(alloc);
+    let mut made = Vec::with_capacity(alloc, list.len())?;
     for l in list {
         let local = local_of(alloc, &l.local)?;
         let next = load_of(alloc, &l.kind, local, &l.cell)?;
@@ -184,7 +184,7 @@ pub(crate) fn call_of(alloc: Global, f: &Name, args: &[Expr]) -> Result<CStmt, M
 fn handed_of(alloc: Global, list: &[Argument]) -> Result<Items<CExpr>, Memory>
     ensures { IfOk result (λ made. map plain_expr made ≡ map (λ a. spec.expr_of a.value) (map written.plain_argument list.now)) }
 {
-    let mut made = Vec::new(alloc);
+    let mut made = Vec::with_capacity(alloc, list.len())?;
     for a in list {
         let next = expr_of(alloc, &a.value)?;
         made.push(next)?;

@@ -7,7 +7,7 @@ ghost use Rattle.c_syntax.specs.Tree.{Program};
 ghost use Rattle.pl_lexer.specs.Proper.{IsName};
 ghost use Rattle.c_reader.specs.Reads.{IfNotFragment, IsFirstWrong, IsReadAs};
 
-use crate::build::program_of;
+use crate::consume::program_from;
 use crate::error::ReadCError;
 use c_forms::read_forms;
 use c_rules::first_breach;
@@ -31,5 +31,5 @@ pub fn read_c(alloc: Global, bytes: &[u8]) -> Result<CProgram, ReadCError>
     if let Some(place) = first_breach(alloc, &source)? {
         return Err(ReadCError::NotFragment(place));
     }
-    Ok(program_of(alloc, &source)?)
+    Ok(program_from(alloc, source)?)
 }

@@ -3,9 +3,10 @@
 ghost use Rattle.std.specs.Prelude.{◌≡◌, IfOk};
 ghost use Rattle.c_rules.specs.Sorts as rules;
 
+use c_forms::Number;
 use c_rules::number_of;
 use c_syntax::{CType, Local};
-use pl_base::{Memory, Name};
+use pl_base::{Items, Memory, Name};
 use std::alloc::Global;
 
 /// The same name.
@@ -43,4 +44,27 @@ pub(crate) fn local_of(alloc: Global, x: &c_forms::Local) -> Result<Local, Memor
         name,
         number: number_of(&x.number),
     })
+}
+
+/// The same number.
+fn copy_number(alloc: Global, n: &Number) -> Result<Number, Memory>
+    ensures { IfOk result (λ copy. copy ≡ n.now) }
+{
+    match n {
+        Number::Small(n) => Ok(Number::Small(*n)),
+        Number::Long(digits) => {
+            let mut copy = Vec::new(alloc);
+            copy.extend_from_slice(digits.as_slice())?;
+            Ok(Number::Long(Items::of(copy)))
+        }
+    }
+}
+
+/// The same local.
+pub(crate) fn copy_local(alloc: Global, x: &c_forms::Local) -> Result<c_forms::Local, Memory>
+    ensures { IfOk result (λ copy. copy ≡ x.now) }
+{
+    let name = copy_name(alloc, &x.name)?;
+    let number = copy_number(alloc, &x.number)?;
+    Ok(c_forms::Local { name, number })
 }

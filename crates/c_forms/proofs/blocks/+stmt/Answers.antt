@@ -33,7 +33,7 @@ more_rows-items-preserved t c =
 
 pub more_rows-returns : goal.more_rows-returns
 more_rows-returns t c =
-    rw c.of.ensures (sym c.items.invariant ∙ turn-ends _ _ _ _ _ (reads_row c.args.nesting c.args.level) (starts_row c.args.nesting c.args.level) (map plain_stmt c.items.all.items) c.items.rest.now (sym c.begins.ensures ∙ c.items-test.false))
+    rw c.exact.ensures (sym c.items.invariant ∙ turn-ends _ _ _ _ _ (reads_row c.args.nesting c.args.level) (starts_row c.args.nesting c.args.level) (map plain_stmt c.items.all.items) c.items.rest.now (sym c.begins.ensures ∙ c.items-test.false))
 
 pub stmt-returns : goal.stmt-returns
 stmt-returns t c = rw (stmt_is c.args.nesting c.args.level) c.by_first.ensures

@@ -24,4 +24,4 @@ items-preserved c =
 pub returns-in-Test : goal.returns-in-Test
 returns-in-Test c =
     let here = c.in_ok-line.ensures ∙ ap (λ l. Ok (plain_line l, c.in_ok-line.behind.now)) c.in-Test.is in
-    rw c.of.ensures (sym c.items.invariant ∙ head_done c.args.level (map plain_load c.items.all.items) (plain_expr c.in-Test.test) c.items.rest.now c.in_ok-line.behind.now here)
+    rw c.exact.ensures (sym c.items.invariant ∙ head_done c.args.level (map plain_load c.items.all.items) (plain_expr c.in-Test.test) c.items.rest.now c.in_ok-line.behind.now here)

@@ -30,4 +30,4 @@ items-preserved c =
 
 pub returns : goal.returns
 returns c =
-    rw c.of.ensures (sym c.items.invariant ∙ turn-ends _ _ _ _ _ (reads_argument_row c.args.level) (starts_argument_row c.args.level) (map plain_argument c.items.all.items) c.items.rest.now (sym c.begins.ensures ∙ c.items-test.false))
+    rw c.exact.ensures (sym c.items.invariant ∙ turn-ends _ _ _ _ _ (reads_argument_row c.args.level) (starts_argument_row c.args.level) (map plain_argument c.items.all.items) c.items.rest.now (sym c.begins.ensures ∙ c.items-test.false))

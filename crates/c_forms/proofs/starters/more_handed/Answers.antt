@@ -22,4 +22,4 @@ items-preserved c =
 
 pub returns : goal.returns
 returns c =
-    rw c.of.ensures (sym c.items.invariant ∙ turn-ends _ _ _ _ _ reads_next_handed starts_next_handed c.items.all.items c.items.rest.now (sym c.begins.ensures ∙ c.items-test.false))
+    rw c.exact.ensures (sym c.items.invariant ∙ turn-ends _ _ _ _ _ reads_next_handed starts_next_handed c.items.all.items c.items.rest.now (sym c.begins.ensures ∙ c.items-test.false))

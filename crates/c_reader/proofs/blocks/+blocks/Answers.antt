@@ -20,4 +20,4 @@ pub stmts_of-returns : goal.stmts_of-returns
 stmts_of-returns t c =
     let structs = structs_in c.args.structs.now.table in
     let none = lines_end structs (gathering c.loop-s.gathered) c.args.list.now c.loop-s.s-index c.loop-s-test.false in
-    ap plain_stmts c.of.ensures ∙ stmts_end c.loop-s.out.items _ _ none c.loop-s.invariant
+    ap plain_stmts (c.of.ensures ∙ c.shrink_to_fit.ensures.items) ∙ stmts_end c.loop-s.out.items _ _ none c.loop-s.invariant

@@ -17,9 +17,9 @@ returns-in-Some-clause-only c = λ p text.
 
 pub returns-clause-found : goal.returns-clause-found
 returns-clause-found c =
-    found_read c.args.bytes.now _ _ c.in_ok-source.ensures.found (sym c.in_default.is ∙ c.in_ok-place.ensures) c.in_ok-program_of.ensures
+    found_read c.args.bytes.now _ _ c.in_ok-source.ensures.found (sym c.in_default.is ∙ c.in_ok-place.ensures) c.in_ok-program_from.ensures
 
 pub returns-clause-only : goal.returns-clause-only
 returns-clause-only c = λ p text.
     let read = c.in_ok-source.ensures.only (source p) (written_text c.args.bytes.now p text c.requires) in
-    only_read c.args.bytes.now p text _ _ read c.in_ok-program_of.ensures
+    only_read c.args.bytes.now p text _ _ read c.in_ok-program_from.ensures
