@@ -4,13 +4,14 @@ ghost use Rattle.std.specs.Prelude.{◌≡◌, ◌<◌, ◌≤◌, ◌+◌, ◌^
 ghost use Rattle.pl_readers.specs.Given.{Gives};
 ghost use Rattle.c_history.specs.Readers as read;
 
-use pl_readers::bytes::{begins, number, word};
+use crate::numbers::number;
+use pl_readers::bytes::{begins, word};
 use pl_readers::{ReadError, refused};
 use pl_resource::{Cell, Value};
 
-const U32_LIMIT: u128 = 1 << 32;
+const U32_LIMIT: u64 = 1 << 32;
 
-const I64_LIMIT: u128 = 1 << 63;
+const I64_LIMIT: u64 = 1 << 63;
 
 /// A number of 32 bits, and what stands behind it.
 #[tactic(auto, unfolding(crate::specs::Readers::unsigned))]
@@ -28,7 +29,7 @@ pub(crate) fn numbered<'a>(bytes: &'a [u8], before: &[u8]) -> Result<(u32, &'a [
     unsigned(word(bytes, before)?)
 }
 
-fn negated(size: u128, rest: &[u8]) -> Result<(i64, &[u8]), ReadError>
+fn negated(size: u64, rest: &[u8]) -> Result<(i64, &[u8]), ReadError>
     requires { size < 2 ^ 63 + 1 }
     ensures { Gives (λ x. (x.0, x.1.now)) result (read.negated size rest.now) }
 {
