@@ -1,4 +1,4 @@
-ghost use Rattle.std.specs.Prelude.{◌≡◌, ◌≤◌, ◌<◌, ◌-◌, ◌^◌, ◌++◌, ◌∷◌, [], IsTrue, IfOk, IfSome, IfNone, OnOk, OnErr, Ok, Some, None, length, map, true, slice_get, slice_set, suc, vec_len, vec_capacity};
+ghost use Rattle.std.specs.Prelude.{◌≡◌, ◌≤◌, ◌<◌, ◌-◌, ◌^◌, ◌++◌, ◌∷◌, [], IsTrue, IfOk, IfSome, IfNone, OnOk, OnErr, Ok, Some, None, length, map, true, slice_get, suc, vec_len, vec_capacity};
 ghost use Rattle.c_syntax.specs.Plain.{plain_program};
 ghost use Rattle.c_meaning.specs.Steps.{Step, start_of};
 ghost use Rattle.c_meaning.specs.Acts.{shared};
@@ -9,7 +9,6 @@ ghost use Rattle.c_meaning.specs.Blocks.{IsTable};
 ghost use Rattle.c_meaning.specs.Machine.{frame_shown, frames_shown, functions_shown, shown_or_none, depth_of, IsCode, IsSpare, BlockRoomAt, CallsNext, MakesRoom};
 ghost use Rattle.c_meaning.specs.Plain.{plain_basic};
 ghost use Rattle.c_meaning.specs.Rooms.{BlockRoom};
-ghost use Rattle.c_meaning.specs.Local.{nest};
 ghost use Rattle.c_meaning.specs.Plain.{plain_term};
 ghost use Rattle.c_meaning.specs.Effects.{eval_number, count_of};
 ghost use Rattle.pl_resource.specs.Faults.{chain};

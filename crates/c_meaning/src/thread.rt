@@ -1,13 +1,13 @@
-ghost use Rattle.std.specs.Prelude.{◌≡◌, List, Err, slice_get, ◌≤◌, ◌<◌, ◌-◌, ◌+◌, ◌^◌, ◌++◌, ◌∷◌, [], IfSome, IfNone, OnOk, IfOk, None, Some, suc, length, vec_len, vec_capacity};
+ghost use Rattle.std.specs.Prelude.{◌≡◌, List, Err, slice_get, ◌≤◌, ◌<◌, ◌-◌, ◌^◌, [], IfSome, IfNone, OnOk, IfOk, None, Some, length, vec_len, vec_capacity};
 ghost use Rattle.c_meaning.specs.declared.code.Block.{Block};
 ghost use Rattle.c_meaning.specs.Plain.{plain_term, plain_basic};
 ghost use Rattle.c_meaning.specs.Tree.{end};
 ghost use Rattle.c_meaning.specs.Values.{eval};
 ghost use Rattle.c_meaning.specs.Local.{nest};
-ghost use Rattle.c_meaning.specs.Blocks.{IsTable, tree, left, fits, ops_at};
+ghost use Rattle.c_meaning.specs.Blocks.{IsTable, left, fits, ops_at};
 ghost use Rattle.c_meaning.specs.Acts.{shared, turn_of};
-ghost use Rattle.c_meaning.specs.Events.{callee, callee_at, function_numbered, begun, event_in, faulted, received, resumed, forked};
-ghost use Rattle.c_meaning.specs.Machine.{IsCode, function_shown, functions_shown, shown_or_none, frame_shown, frames_shown, FrameFits, AllFit, ForkFits, AtOp, Taken, stepped, strode, strides, returned, turned, BlockRoomAt, Places, PlacesFor, IsSpare, CallsNext, MakesRoom, moved_of, advanced, depth_of, fork_shown};
+ghost use Rattle.c_meaning.specs.Events.{callee, function_numbered, begun, event_in, faulted, received, resumed, forked};
+ghost use Rattle.c_meaning.specs.Machine.{IsCode, functions_shown, shown_or_none, frame_shown, frames_shown, FrameFits, AllFit, ForkFits, AtOp, Taken, stepped, strode, strides, returned, turned, BlockRoomAt, Places, PlacesFor, IsSpare, CallsNext, MakesRoom, moved_of, advanced, depth_of, fork_shown};
 
 use crate::act::{Turn, act};
 use crate::action::Action;

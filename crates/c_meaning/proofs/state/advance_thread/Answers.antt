@@ -1,4 +1,4 @@
-use Rattle.std.proofs.Common.{rules, ◌≡◌, ◌++◌, Some, Ok, Err, length, map, slice_get, slice_set, sym, ap, ◌∙◌, subst}
+use Rattle.std.proofs.Common.{rules, ◌≡◌, ◌++◌, Some, Ok, Err, length, map, slice_set, sym, ap, ◌∙◌, subst}
 use Rattle.c_meaning.specs.Acts.{shared}
 use Rattle.c_meaning.specs.Machine.{functions_shown, frames_shown, moved_of, fork_shown, Moved, CallsNext, MakesRoom}
 use Rattle.c_meaning.specs.States.{thread_shown, frames_at, FramesRoom}

@@ -1,4 +1,4 @@
-use Rattle.std.proofs.Common.{Some, sym, ap, ◌∙◌, subst}
+use Rattle.std.proofs.Common.{sym, ap, ◌∙◌, subst}
 use Rattle.std.specs.Prelude.{OnOk}
 use Rattle.c_meaning.specs.Machine.{AllFit}
 use Rattle.c_meaning.specs.States.{FramesRoom, frames_at}

@@ -1,4 +1,4 @@
-use Rattle.std.proofs.Common.{◌≡◌, map, ap, ◌∙◌, subst, slice_get}
+use Rattle.std.proofs.Common.{ap, ◌∙◌, subst, slice_get}
 use Rattle.c_meaning.specs.Acts.{shared}
 use Rattle.c_meaning.specs.Events.{is_ended, next_of}
 use Rattle.c_meaning.specs.Machine.{functions_shown}
