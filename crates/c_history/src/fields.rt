@@ -1,6 +1,7 @@
 //! The parts of a line: numbers, values and cells.
 
-ghost use Rattle.std.specs.Prelude.{◌≡◌, ◌<◌, ◌≤◌, ◌+◌, ◌^◌, IfOk, codes, length};
+ghost use Rattle.std.specs.Prelude.{◌≡◌, ◌<◌, ◌≤◌, ◌+◌, ◌^◌, ◌∷◌, [], IfOk, codes, length};
+ghost use Rattle.pl_readers.specs.Bytes as spec;
 ghost use Rattle.pl_readers.specs.Given.{Gives};
 ghost use Rattle.c_history.specs.Readers as read;
 
@@ -20,6 +21,24 @@ pub(crate) fn unsigned(bytes: &[u8]) -> Result<(u32, &[u8]), ReadError>
 {
     let (n, rest) = number(bytes, U32_LIMIT)?;
     Ok((n as u32, rest))
+}
+
+/// What stands behind this byte. A line has seven such places, for which `word` is too slow.
+#[tactic(auto, unfolding(pl_readers::specs::Bytes::word))]
+pub(crate) fn byte(bytes: &[u8], wanted: u8) -> Result<&[u8], ReadError>
+    ensures { Gives (λ rest. (tt, rest.now)) result (spec.word (wanted ∷ []) bytes.now) }
+{
+    match bytes {
+        [first, rest @ ..] if *first == wanted => Ok(rest),
+        _ => Err(refused(bytes)),
+    }
+}
+
+/// A number of 32 bits behind a byte.
+pub(crate) fn marked(bytes: &[u8], mark: u8) -> Result<(u32, &[u8]), ReadError>
+    ensures { Gives (λ x. (x.0, x.1.now)) result (read.numbered (mark ∷ []) bytes.now) }
+{
+    unsigned(byte(bytes, mark)?)
 }
 
 /// A number of 32 bits behind a word.
@@ -45,7 +64,7 @@ pub(crate) fn signed(bytes: &[u8]) -> Result<(i64, &[u8]), ReadError>
     ensures { Gives (λ x. (x.0, x.1.now)) result (read.signed bytes.now) }
 {
     if begins(bytes, b'-') {
-        let rest = word(bytes, b"-")?;
+        let rest = byte(bytes, b'-')?;
         let (size, rest) = number(rest, I64_LIMIT + 1)?;
         return negated(size, rest);
     }
@@ -67,9 +86,9 @@ pub(crate) fn truth(bytes: &[u8]) -> Result<(bool, &[u8]), ReadError>
 pub(crate) fn cell(bytes: &[u8]) -> Result<(Cell, &[u8]), ReadError>
     ensures { Gives (λ x. (x.0, x.1.now)) result (read.cell bytes.now) }
 {
-    let (block, rest) = numbered(bytes, b"b")?;
-    let (index, rest) = numbered(rest, b".")?;
-    let (field, rest) = numbered(rest, b".")?;
+    let (block, rest) = marked(bytes, b'b')?;
+    let (index, rest) = marked(rest, b'.')?;
+    let (field, rest) = marked(rest, b'.')?;
     let cell = Cell {
         block,
         index,
@@ -83,11 +102,11 @@ pub(crate) fn value(bytes: &[u8]) -> Result<(Value, &[u8]), ReadError>
     ensures { Gives (λ x. (x.0, x.1.now)) result (read.value_of bytes.now) }
 {
     if begins(bytes, b'b') {
-        let (block, rest) = numbered(bytes, b"b")?;
+        let (block, rest) = marked(bytes, b'b')?;
         return Ok((Value::Block(block), rest));
     }
     if begins(bytes, b'k') {
-        let (lock, rest) = numbered(bytes, b"k")?;
+        let (lock, rest) = marked(bytes, b'k')?;
         return Ok((Value::Lock(lock), rest));
     }
     if begins(bytes, b'n') {
