@@ -4,10 +4,9 @@ ghost use Rattle.std.specs.Prelude.{◌≡◌, ◌≤◌, codes, length, take, d
 ghost use Rattle.pl_readers.specs.Given.{Gives};
 ghost use Rattle.c_history.specs.Readers as read;
 
-use crate::fields::{cell, numbered, signed, truth, value};
+use crate::fields::{byte, cell, marked, numbered, signed, truth, value};
 use crate::verbs::{Verb, verb_of};
 use c_meaning::Action;
-use pl_readers::bytes::word;
 use pl_readers::{ReadError, refused};
 use pl_resource::{Cell, Value};
 
@@ -16,8 +15,8 @@ use pl_resource::{Cell, Value};
 fn access(bytes: &[u8]) -> Result<(Cell, Value, &[u8]), ReadError>
     ensures { Gives (λ x. ((x.0, x.1), x.2.now)) result (read.access bytes.now) }
 {
-    let (cell, rest) = cell(word(bytes, b" ")?)?;
-    let (value, rest) = value(word(rest, b" ")?)?;
+    let (cell, rest) = cell(byte(bytes, b' ')?)?;
+    let (value, rest) = value(byte(rest, b' ')?)?;
     Ok((cell, value, rest))
 }
 
@@ -26,9 +25,9 @@ fn access(bytes: &[u8]) -> Result<(Cell, Value, &[u8]), ReadError>
 fn swap(bytes: &[u8]) -> Result<(Cell, i64, bool, &[u8]), ReadError>
     ensures { Gives (λ x. ((x.0, (x.1, x.2)), x.3.now)) result (read.swap bytes.now) }
 {
-    let (cell, rest) = cell(word(bytes, b" ")?)?;
-    let (seen, rest) = signed(word(rest, b" ")?)?;
-    let (stored, rest) = truth(word(rest, b" ")?)?;
+    let (cell, rest) = cell(byte(bytes, b' ')?)?;
+    let (seen, rest) = signed(byte(rest, b' ')?)?;
+    let (stored, rest) = truth(byte(rest, b' ')?)?;
     Ok((cell, seen, stored, rest))
 }
 
@@ -38,7 +37,7 @@ fn made(bytes: &[u8]) -> Result<(u32, u32, &[u8]), ReadError>
     ensures { Gives (λ x. ((x.0, x.1), x.2.now)) result (read.made bytes.now) }
 {
     let (block, rest) = numbered(bytes, b" b")?;
-    let (count, rest) = numbered(rest, b" ")?;
+    let (count, rest) = marked(rest, b' ')?;
     Ok((block, count, rest))
 }
 
@@ -46,7 +45,7 @@ fn made(bytes: &[u8]) -> Result<(u32, u32, &[u8]), ReadError>
 fn spaced(bytes: &[u8]) -> Result<(i64, &[u8]), ReadError>
     ensures { Gives (λ x. (x.0, x.1.now)) result (read.behind (codes " ") read.signed bytes.now) }
 {
-    signed(word(bytes, b" ")?)
+    signed(byte(bytes, b' ')?)
 }
 
 /// What stands behind a verb.
@@ -67,12 +66,12 @@ fn arguments(verb: Verb, rest: &[u8]) -> Result<(Action, &[u8]), ReadError>
         Verb::Acquire => numbered(rest, b" k").map(|(lock, rest)| (Action::Acquire(lock), rest)),
         Verb::Release => numbered(rest, b" k").map(|(lock, rest)| (Action::Release(lock), rest)),
         Verb::FreeLock => numbered(rest, b" k").map(|(lock, rest)| (Action::FreeLock(lock), rest)),
-        Verb::Fork => numbered(rest, b" ").map(|(child, rest)| (Action::Fork(child), rest)),
-        Verb::Join => numbered(rest, b" ").map(|(child, rest)| (Action::Join(child), rest)),
+        Verb::Fork => marked(rest, b' ').map(|(child, rest)| (Action::Fork(child), rest)),
+        Verb::Join => marked(rest, b' ').map(|(child, rest)| (Action::Join(child), rest)),
         Verb::Print => spaced(rest).map(|(n, rest)| (Action::Print(n), rest)),
         Verb::Read => spaced(rest).map(|(n, rest)| (Action::Read(n), rest)),
         Verb::Turn => Ok((Action::Turn, rest)),
-        Verb::Call => numbered(rest, b" ").map(|(function, rest)| (Action::Call(function), rest)),
+        Verb::Call => marked(rest, b' ').map(|(function, rest)| (Action::Call(function), rest)),
         Verb::Return => Ok((Action::Return, rest)),
     }
 }

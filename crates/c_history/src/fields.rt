@@ -1,16 +1,18 @@
 //! The parts of a line: numbers, values and cells.
 
-ghost use Rattle.std.specs.Prelude.{◌≡◌, ◌<◌, ◌≤◌, ◌+◌, ◌^◌, IfOk, codes, length};
+ghost use Rattle.std.specs.Prelude.{◌≡◌, ◌<◌, ◌≤◌, ◌+◌, ◌^◌, ◌∷◌, [], IfOk, codes, length};
+ghost use Rattle.pl_readers.specs.Bytes as spec;
 ghost use Rattle.pl_readers.specs.Given.{Gives};
 ghost use Rattle.c_history.specs.Readers as read;
 
-use pl_readers::bytes::{begins, number, word};
+use crate::numbers::number;
+use pl_readers::bytes::{begins, word};
 use pl_readers::{ReadError, refused};
 use pl_resource::{Cell, Value};
 
-const U32_LIMIT: u128 = 1 << 32;
+const U32_LIMIT: u64 = 1 << 32;
 
-const I64_LIMIT: u128 = 1 << 63;
+const I64_LIMIT: u64 = 1 << 63;
 
 /// A number of 32 bits, and what stands behind it.
 #[tactic(auto, unfolding(crate::specs::Readers::unsigned))]
@@ -21,6 +23,24 @@ pub(crate) fn unsigned(bytes: &[u8]) -> Result<(u32, &[u8]), ReadError>
     Ok((n as u32, rest))
 }
 
+/// What stands behind this byte. A line has seven such places, for which `word` is too slow.
+#[tactic(auto, unfolding(pl_readers::specs::Bytes::word))]
+pub(crate) fn byte(bytes: &[u8], wanted: u8) -> Result<&[u8], ReadError>
+    ensures { Gives (λ rest. (tt, rest.now)) result (spec.word (wanted ∷ []) bytes.now) }
+{
+    match bytes {
+        [first, rest @ ..] if *first == wanted => Ok(rest),
+        _ => Err(refused(bytes)),
+    }
+}
+
+/// A number of 32 bits behind a byte.
+pub(crate) fn marked(bytes: &[u8], mark: u8) -> Result<(u32, &[u8]), ReadError>
+    ensures { Gives (λ x. (x.0, x.1.now)) result (read.numbered (mark ∷ []) bytes.now) }
+{
+    unsigned(byte(bytes, mark)?)
+}
+
 /// A number of 32 bits behind a word.
 pub(crate) fn numbered<'a>(bytes: &'a [u8], before: &[u8]) -> Result<(u32, &'a [u8]), ReadError>
     ensures { Gives (λ x. (x.0, x.1.now)) result (read.numbered before.now bytes.now) }
@@ -28,7 +48,7 @@ pub(crate) fn numbered<'a>(bytes: &'a [u8], before: &[u8]) -> Result<(u32, &'a [
     unsigned(word(bytes, before)?)
 }
 
-fn negated(size: u128, rest: &[u8]) -> Result<(i64, &[u8]), ReadError>
+fn negated(size: u64, rest: &[u8]) -> Result<(i64, &[u8]), ReadError>
     requires { size < 2 ^ 63 + 1 }
     ensures { Gives (λ x. (x.0, x.1.now)) result (read.negated size rest.now) }
 {
@@ -44,7 +64,7 @@ pub(crate) fn signed(bytes: &[u8]) -> Result<(i64, &[u8]), ReadError>
     ensures { Gives (λ x. (x.0, x.1.now)) result (read.signed bytes.now) }
 {
     if begins(bytes, b'-') {
-        let rest = word(bytes, b"-")?;
+        let rest = byte(bytes, b'-')?;
         let (size, rest) = number(rest, I64_LIMIT + 1)?;
         return negated(size, rest);
     }
@@ -66,9 +86,9 @@ pub(crate) fn truth(bytes: &[u8]) -> Result<(bool, &[u8]), ReadError>
 pub(crate) fn cell(bytes: &[u8]) -> Result<(Cell, &[u8]), ReadError>
     ensures { Gives (λ x. (x.0, x.1.now)) result (read.cell bytes.now) }
 {
-    let (block, rest) = numbered(bytes, b"b")?;
-    let (index, rest) = numbered(rest, b".")?;
-    let (field, rest) = numbered(rest, b".")?;
+    let (block, rest) = marked(bytes, b'b')?;
+    let (index, rest) = marked(rest, b'.')?;
+    let (field, rest) = marked(rest, b'.')?;
     let cell = Cell {
         block,
         index,
@@ -82,11 +102,11 @@ pub(crate) fn value(bytes: &[u8]) -> Result<(Value, &[u8]), ReadError>
     ensures { Gives (λ x. (x.0, x.1.now)) result (read.value_of bytes.now) }
 {
     if begins(bytes, b'b') {
-        let (block, rest) = numbered(bytes, b"b")?;
+        let (block, rest) = marked(bytes, b'b')?;
         return Ok((Value::Block(block), rest));
     }
     if begins(bytes, b'k') {
-        let (lock, rest) = numbered(bytes, b"k")?;
+        let (lock, rest) = marked(bytes, b'k')?;
         return Ok((Value::Lock(lock), rest));
     }
     if begins(bytes, b'n') {

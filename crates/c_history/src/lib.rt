@@ -5,6 +5,7 @@ mod actions;
 mod error;
 mod fields;
 mod laws;
+mod numbers;
 mod reading;
 mod replaying;
 mod verbs;

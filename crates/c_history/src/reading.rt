@@ -10,7 +10,7 @@ ghost use Rattle.c_history.specs.Readers as read;
 
 use crate::actions::action;
 use crate::error::HistoryError;
-use crate::fields::{numbered, unsigned};
+use crate::fields::{byte, numbered, unsigned};
 use c_meaning::{Event, History};
 use pl_base::{Items, Memory};
 use pl_readers::bytes::word;
@@ -23,8 +23,8 @@ fn line(bytes: &[u8]) -> Result<(Event, &[u8]), ReadError>
     ensures { Gives (λ x. (x.0, x.1.now)) result (read.line bytes.now) }
 {
     let (tid, rest) = unsigned(bytes)?;
-    let (action, rest) = action(word(rest, b" ")?)?;
-    Ok((Event { tid, action }, word(rest, b"\n")?))
+    let (action, rest) = action(byte(rest, b' ')?)?;
+    Ok((Event { tid, action }, byte(rest, b'\n')?))
 }
 
 /// The events of all lines from here on that are lines of events, and what stands behind them.

@@ -37,7 +37,7 @@ pub fn replay(
     let mut state = CState::start(alloc, program, input)?;
     for (k, event) in events.iter().enumerate() {
         let expected = next_event(&mut state, program, event.tid)?;
-        if !is_event(expected, *event) {
+        if !is_event(&expected, event) {
             return Ok(Replayed::Differs(k as u32, expected, *event));
         }
     }
@@ -64,11 +64,11 @@ fn next_event(state: &mut CState, program: &CProgram, tid: u32) -> Result<Option
     Ok(Some(state.step(program, tid)))
 }
 
-fn is_event(expected: Option<Event>, event: Event) -> bool
-    ensures { IsTrue result ↔ (expected ≡ Some event) }
+fn is_event(expected: &Option<Event>, event: &Event) -> bool
+    ensures { IsTrue result ↔ (expected.now ≡ Some event.now) }
 {
     match expected {
-        Some(next) => next == event,
+        Some(next) => *next == *event,
         None => false,
     }
 }

@@ -50,7 +50,7 @@ pub world-sync : IsSync World.the_row
 world-sync = declared_sync World.the_type (search (known) depth 60 fits 20000, (search (known) depth 60 fits 20000, (search (known) depth 60 fits 20000, (search (known) depth 60 fits 20000, (search (known) depth 60 fits 20000, (search (known) depth 60 fits 20000, tt))))))
 
 pub machine-send : IsSend Machine.the_row
-machine-send = declared_send Machine.the_type (search (known, block-send, frame-send, thread-send, world-send) depth 60 fits 20000, (search (known, block-send, frame-send, thread-send, world-send) depth 60 fits 20000, (search (known, block-send, frame-send, thread-send, world-send) depth 60 fits 20000, (search (known, block-send, frame-send, thread-send, world-send) depth 60 fits 20000, (search (known, block-send, frame-send, thread-send, world-send) depth 60 fits 20000, (search (known, block-send, frame-send, thread-send, world-send) depth 60 fits 20000, (search (known, block-send, frame-send, thread-send, world-send) depth 60 fits 20000, (search (known, block-send, frame-send, thread-send, world-send) depth 60 fits 20000, tt))))))))
+machine-send = declared_send Machine.the_type (search (known, block-send, frame-send, thread-send, world-send) depth 60 fits 20000, (search (known, block-send, frame-send, thread-send, world-send) depth 60 fits 20000, (search (known, block-send, frame-send, thread-send, world-send) depth 60 fits 20000, (search (known, block-send, frame-send, thread-send, world-send) depth 60 fits 20000, (search (known, block-send, frame-send, thread-send, world-send) depth 60 fits 20000, (search (known, block-send, frame-send, thread-send, world-send) depth 60 fits 20000, (search (known, block-send, frame-send, thread-send, world-send) depth 60 fits 20000, (search (known, block-send, frame-send, thread-send, world-send) depth 60 fits 20000, (search (known, block-send, frame-send, thread-send, world-send) depth 60 fits 20000, tt)))))))))
 
 pub machine-sync : IsSync Machine.the_row
-machine-sync = declared_sync Machine.the_type (search (known, block-sync, frame-sync, thread-sync, world-sync) depth 60 fits 20000, (search (known, block-sync, frame-sync, thread-sync, world-sync) depth 60 fits 20000, (search (known, block-sync, frame-sync, thread-sync, world-sync) depth 60 fits 20000, (search (known, block-sync, frame-sync, thread-sync, world-sync) depth 60 fits 20000, (search (known, block-sync, frame-sync, thread-sync, world-sync) depth 60 fits 20000, (search (known, block-sync, frame-sync, thread-sync, world-sync) depth 60 fits 20000, (search (known, block-sync, frame-sync, thread-sync, world-sync) depth 60 fits 20000, (search (known, block-sync, frame-sync, thread-sync, world-sync) depth 60 fits 20000, tt))))))))
+machine-sync = declared_sync Machine.the_type (search (known, block-sync, frame-sync, thread-sync, world-sync) depth 60 fits 20000, (search (known, block-sync, frame-sync, thread-sync, world-sync) depth 60 fits 20000, (search (known, block-sync, frame-sync, thread-sync, world-sync) depth 60 fits 20000, (search (known, block-sync, frame-sync, thread-sync, world-sync) depth 60 fits 20000, (search (known, block-sync, frame-sync, thread-sync, world-sync) depth 60 fits 20000, (search (known, block-sync, frame-sync, thread-sync, world-sync) depth 60 fits 20000, (search (known, block-sync, frame-sync, thread-sync, world-sync) depth 60 fits 20000, (search (known, block-sync, frame-sync, thread-sync, world-sync) depth 60 fits 20000, (search (known, block-sync, frame-sync, thread-sync, world-sync) depth 60 fits 20000, tt)))))))))

@@ -9,6 +9,8 @@ pub mod Held
 pub mod FrameEvents
 pub mod Threads
 pub mod Touched
+pub mod Strides
+pub mod Spares
 pub mod StateEvents
 pub mod Loading
 pub mod Counts

@@ -8,7 +8,7 @@ use Rattle.c_meaning.specs.declared.thread.Frame as machine
 use Rattle.c_meaning.specs.declared.state.Thread as thread
 use Rattle.c_meaning.specs.Tree.{Function}
 use Rattle.c_meaning.specs.Effects.{World}
-use Rattle.c_meaning.specs.Events.{State, Thread, Frame, Done, ready, next_by, next_from, next_of, is_enabled, atomic_at, event_of, event_from, event_of_frame, thread_of, state_after, called}
+use Rattle.c_meaning.specs.Events.{State, Thread, Frame, Done, ready, is_ended, next_by, next_from, next_of, is_enabled, atomic_at, event_of, event_from, event_of_frame, thread_of, state_after, called}
 use Rattle.c_meaning.specs.Machine.{AllFit, frames_shown, frame_shown, Moved, moved_by, moved_of, fork_shown, ForkFits}
 use Rattle.c_meaning.specs.States.{thread_shown, ThreadsFit, ThreadAdded, frames_at, IsLast}
 use Rattle.c_meaning.proofs.Threads.{shown_snoc}
@@ -22,11 +22,6 @@ pub set_shown : (T : List Block) (ts : List thread.Thread) (t : ℕ) (x : thread
 set_shown T [] t x = refl
 set_shown T (y ∷ ts) zero x = refl
 set_shown T (y ∷ ts) (suc t) x = ap (λ z. thread_shown T y ∷ z) (set_shown T ts t x)
-
-pub set_again : {A : Type 0} (xs : List A) (t : ℕ) (x y : A) → slice_set (slice_set xs t x) t y ≡ slice_set xs t y
-set_again [] t x y = refl
-set_again (z ∷ xs) zero x y = refl
-set_again (z ∷ xs) (suc t) x y = ap (λ w. z ∷ w) (set_again xs t x y)
 
 set_same : {A : Type 0} (xs : List A) (t : ℕ) (x : A) → slice_get xs t ≡ Some x → slice_set xs t x ≡ xs
 set_same [] t x h = refl
@@ -52,9 +47,10 @@ get_set [] t x h = absurd (omega (arith, h))
 get_set (y ∷ xs) zero x h = refl
 get_set (y ∷ xs) (suc t) x h = get_set xs t x (omega (arith, h))
 
--- a thread's frames, taken out and put back
-pub put_back : {A : Type 0} (old taken now : List A) (t : ℕ) (x y : A) → taken ≡ slice_set old t x → now ≡ slice_set taken t y → now ≡ slice_set old t y
-put_back old taken now t x y h k = k ∙ (ap (λ z. slice_set z t y) h ∙ set_again old t x y)
+pub get_at : {A : Type 0} (xs : List A) (t : ℕ) (x : A) → t < length xs → x ≡ slice_index_or xs t x → slice_get xs t ≡ Some x
+get_at [] t x h e = absurd (omega (arith, h))
+get_at (y ∷ xs) zero x h e = ap Some (sym e)
+get_at (y ∷ xs) (suc t) x h e = get_at xs t x (omega (arith, h)) e
 
 -- the frames of a thread, put back with the same calls
 pub shown_same : (T : List Block) (ts : List thread.Thread) (t : ℕ) (x y : thread.Thread) → slice_get ts t ≡ Some x → y.frames.items ≡ x.frames.items → map (thread_shown T) (slice_set ts t y) ≡ map (thread_shown T) ts
@@ -133,3 +129,12 @@ next_told F T world ts t f l = sym (ap (next_from F (record { world = world; thr
 
 pub next_ended : (F : List Function) (T : List Block) (world : World) (ts : List thread.Thread) (t : ℕ) → frames_at (slice_get ts t) ≡ [] → next_from F (record { world = world; threads = map (thread_shown T) ts }) [] ≡ next_of F (record { world = world; threads = map (thread_shown T) ts }) t
 next_ended F T world ts t e = sym (ap (next_from F (record { world = world; threads = map (thread_shown T) ts })) (get_shown T ts t ∙ ap (frames_shown T) e))
+
+never_ended : (atomic : Bool) (r : Result Done Fault) → false ≡ is_ended (next_by atomic r)
+never_ended atomic (Err f) = refl
+never_ended atomic (Ok done) = refl
+
+-- a thread with a frame has not ended
+pub unended_told : (F : List Function) (T : List Block) (world : World) (ts : List thread.Thread) (t : ℕ) (f : machine.Frame) → IsLast (frames_at (slice_get ts t)) f → false ≡ is_ended (next_of F (record { world = world; threads = map (thread_shown T) ts }) t)
+unended_told F T world ts t f l =
+    never_ended (atomic_at (frame_shown T f).left) (event_of_frame F (length (map (thread_shown T) ts)) (frame_shown T f) world) ∙ ap is_ended (next_told F T world ts t f l)

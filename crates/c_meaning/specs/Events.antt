@@ -180,6 +180,11 @@ next_from functions state (frame ∷ callers) =
 abbrev pub next_of : List Function → State → ℕ → Next
 next_of functions state t = next_from functions state (thread_of state t)
 
+-- it has ended
+abbrev pub is_ended : Next → Bool
+is_ended next.Ended = true
+is_ended _ = false
+
 abbrev pub is_truth : Result Bool Fault → Bool
 is_truth (Ok b) = b
 is_truth (Err f) = false

@@ -3,6 +3,7 @@ use Rattle.std.specs.Prelude.{◌≡◌, ℕ, suc, ◌≤◌, Bool, ⊤, List, [
 use Rattle.pl_resource.specs.Faults.{chain}
 use Rattle.pl_resource.specs.declared.value.Fault.{Fault}
 use Rattle.pl_resource.specs.declared.value.Fault.TheVariants as fault
+use Rattle.pl_resource.specs.declared.value.Value.{Value}
 use Rattle.c_meaning.specs.declared.action.Action.{Action}
 use Rattle.c_meaning.specs.declared.code.Block.{Block}
 use Rattle.c_meaning.specs.declared.code.Op.{Op}
@@ -15,10 +16,10 @@ use Rattle.c_meaning.specs.Tree.{Stmts, more, Do, Function}
 use Rattle.c_meaning.specs.Values.{Env}
 use Rattle.c_meaning.specs.Local.{nest}
 use Rattle.c_meaning.specs.Blocks.{IsTable, tree, stmt_of, testing, left, fits}
-use Rattle.c_meaning.specs.Effects.{World, Own}
+use Rattle.c_meaning.specs.Effects.{World, Own, Turn, Past, Calls, Forks, Returns}
 use Rattle.c_meaning.specs.Acts.{turn_of}
 use Rattle.c_meaning.specs.Rooms.{BlockRoom}
-use Rattle.c_meaning.specs.Events.{Frame, Thread, Done, event_of_frame, called, blank, no_function, frames_after, frame_behind, forked}
+use Rattle.c_meaning.specs.Events.{Frame, Thread, Done, event_in, own_of, event_of_frame, callee_at, called, blank, no_function, begun, resumed, frames_after, frame_behind, forked}
 
 abbrev pub function_shown : List Block → rust.Function → Function
 function_shown T f = record { body = tree T f.body; slots = f.slots }
@@ -77,16 +78,34 @@ abbrev pub BlockRoomAt : Env → Stmts → w.World → Type 0
 BlockRoomAt env (more (Do b) rest) world = BlockRoom env b world
 BlockRoomAt env _ world = ⊤
 
--- a frame for that function, before its arguments are in it
-pub record IsSpare (f : Function) (spare : machine.Frame) : Type 0 where
-  pub empty : spare.spots.items ≡ []
-  pub places : suc (nest f.body) ≤ vec_capacity spare.spots
-  pub blank : spare.env.items ≡ blank f
+-- so many places are enough for that function, where one is called
+abbrev pub Places : List Block → Option rust.Function → ℕ → Type 0
+Places T None room = ⊤
+Places T (Some f) room = suc (nest (tree T f.body)) ≤ room
 
--- the memory that a thread's next event needs
-abbrev pub RoomAt : List Function → Thread → w.World → machine.Frame → Type 0
-RoomAt F [] world spare = ⊤
-RoomAt F (f ∷ callers) world spare = BlockRoomAt f.env f.left world × IsSpare (called F f.left) spare
+abbrev pub PlacesFor : Option ℕ → Function → ℕ → Type 0
+PlacesFor None f room = ⊤
+PlacesFor (Some k) f room = suc (nest f.body) ≤ room
+
+abbrev pub BlankFor : Option ℕ → Function → Env → Type 0
+BlankFor None f env = ⊤
+BlankFor (Some k) f env = env ≡ blank f
+
+-- a frame for that function, the one of that number, before its arguments are in it; where none is called, one with no place
+pub record IsSpare (callee : Option ℕ) (f : Function) (spare : machine.Frame) : Type 0 where
+  pub empty : spare.spots.items ≡ []
+  pub places : PlacesFor callee f (vec_capacity spare.spots)
+  pub blank : BlankFor callee f spare.env.items
+
+-- the number of the function that a thread calls next
+abbrev pub CallsNext : Option ℕ → Thread → Type 0
+CallsNext callee [] = ⊤
+CallsNext callee (f ∷ callers) = callee ≡ callee_at f.left
+
+-- the block, the lock or the number printed that a thread's next event makes has room
+abbrev pub MakesRoom : Thread → w.World → Type 0
+MakesRoom [] world = ⊤
+MakesRoom (f ∷ callers) world = BlockRoomAt f.env f.left world
 
 -- an event of a thread: its action, what the threads share after it, the thread's frames, and the thread that it starts
 pub record Moved : Type 0 where
@@ -107,6 +126,35 @@ abbrev pub moved_of : List Function → ℕ → Thread → World → Result Move
 moved_of F next [] world = Err fault.Kind
 moved_of F next (frame ∷ callers) world =
     chain (event_of_frame F next frame world) (λ done. Ok (moved_by (called F frame.left) frame callers done))
+
+-- what the innermost frame does, up to the local statements behind it
+pub record Stride : Type 0 where
+  pub action : Action
+  pub turn : Turn
+  pub world : World
+  pub frames : Thread
+
+abbrev pub strides : ℕ → Env → Thread → World → Result Stride Fault
+strides next locals [] world = Err fault.Kind
+strides next locals (frame ∷ callers) world =
+    chain (event_in next locals frame.left (own_of frame) world) (λ done.
+    Ok (record { action = done.effect.action; turn = done.effect.turn; world = done.effect.world; frames = frame_behind frame done ∷ callers }))
+
+abbrev pub strode : Result (Action × code.Turn) Fault → Thread → World → Env → Result Stride Fault
+strode (Err f) frames world locals = Err f
+strode (Ok r) frames world locals = Ok (record { action = r.0; turn = turn_of locals r.1; world = world; frames = frames })
+
+-- the innermost frame goes, and its caller goes on
+abbrev pub returned : Option Value → Thread → Thread
+returned result [] = []
+returned result (now ∷ callers) = resumed now.into result callers
+
+-- the frames of a thread behind an event of its innermost one
+abbrev pub turned : Function → Turn → Thread → Thread
+turned f Past frames = resumed None None frames
+turned f (Calls locals into) frames = begun f locals into ∷ frames
+turned f (Forks locals) frames = resumed None None frames
+turned f (Returns result) frames = returned result frames
 
 abbrev pub fork_shown : List Block → Option machine.Frame → List Thread
 fork_shown T None = []

@@ -9,9 +9,8 @@ use Rattle.c_meaning.specs.declared.world.World as w
 use Rattle.c_meaning.specs.Tree.{Function}
 use Rattle.c_meaning.specs.Resolve.{functions_of}
 use Rattle.c_meaning.specs.Acts.{shared}
-use Rattle.c_meaning.specs.Rooms.{SmallRoom}
-use Rattle.c_meaning.specs.Events.{State, Thread}
-use Rattle.c_meaning.specs.Machine.{functions_shown, frames_shown, AllFit, RoomAt}
+use Rattle.c_meaning.specs.Events.{State, Thread, function_numbered}
+use Rattle.c_meaning.specs.Machine.{functions_shown, frames_shown, AllFit, CallsNext, MakesRoom, IsSpare}
 
 -- the code, the threads, what these share, and the thread for whose next event there is room
 pub record Held : Type 0 where
@@ -53,11 +52,12 @@ pub record IsLast (fs : List machine.Frame) (f : machine.Frame) : Type 0 where
   pub before : List machine.Frame
   pub is : fs ≡ before ++ f ∷ []
 
--- the memory that the next event of a thread needs
-pub record HasRoom (T : List Block) (F : List Function) (o : Option thread.Thread) (world : w.World) (spare : machine.Frame) : Type 0 where
-  pub small : SmallRoom world
+-- the memory that the next event of a thread needs, and which function it calls
+pub record HasRoom (T : List Block) (F : List Function) (o : Option thread.Thread) (world : w.World) (callee : Option ℕ) (spare : machine.Frame) : Type 0 where
   pub frames : FramesRoom o
-  pub at : RoomAt F (frames_shown T (frames_at o)) world spare
+  pub calls : CallsNext callee (frames_shown T (frames_at o))
+  pub makes : MakesRoom (frames_shown T (frames_at o)) world
+  pub called : IsSpare callee (function_numbered F callee) spare
 
 -- a thread with that frame was added, if there is one
 abbrev pub ThreadAdded : List thread.Thread → List thread.Thread → Option machine.Frame → Type 0

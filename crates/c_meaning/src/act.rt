@@ -4,7 +4,7 @@ ghost use Rattle.c_meaning.specs.Plain.{plain_term, plain_place, plain_basic};
 ghost use Rattle.c_meaning.specs.Values.{eval_onto, arguments};
 ghost use Rattle.c_meaning.specs.Effects.{index_of, offset_of, base_of, block_at, cell_at, number_of, eval_number, count_of, has_fields, lock_of_local, effect_of};
 ghost use Rattle.c_meaning.specs.Acts.{shared, acted};
-ghost use Rattle.c_meaning.specs.Rooms.{BlockRoom, SmallRoom};
+ghost use Rattle.c_meaning.specs.Rooms.{BlockRoom};
 
 use crate::action::Action;
 use crate::eval::{evaluate, local};
@@ -174,7 +174,6 @@ pub(crate) fn act(
     next: u32,
 ) -> Result<(Action, Turn), Fault>
     requires block { BlockRoom env.old.items (plain_basic basic.now) world.old }
-    requires small { SmallRoom world.old }
     requires blocks { length world.old.heap.blocks < 2 ^ 32 - 1 }
     requires locks { length world.old.locks.locks < 2 ^ 32 - 1 }
     ensures { acted result (record { env = env.new.items; child = child.new }) (shared world.new) locals.new.items ≡ effect_of next locals.old.items (plain_basic basic.now) (record { env = env.old.items; child = child.old }) (shared world.old) }

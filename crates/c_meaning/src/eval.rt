@@ -1,4 +1,4 @@
-ghost use Rattle.std.specs.Prelude.{◌≡◌, ◌≢◌, ℤ, pos, FitsSigned};
+ghost use Rattle.std.specs.Prelude.{◌≡◌, ◌≢◌, ℤ, pos, FitsSigned, IfSome, Ok};
 ghost use Rattle.std.specs.Int.{w64, CanDivide};
 ghost use Rattle.std.specs.Int.RustNames.{int_div, int_rem};
 ghost use Rattle.std.specs.Option.{SomeIff};
@@ -13,28 +13,55 @@ use pl_resource::{Fault, Value};
 pub(crate) fn evaluate(e: &Term, env: &[Value]) -> Result<Value, Fault>
     ensures { result ≡ eval env.now (plain_term e.now) }
 {
+    match leaf(e, env) {
+        Some(v) => Ok(v),
+        None => calculate_all(e, env),
+    }
+}
+
+// The value of a number or a local that has one: most operands are one of these, and need no call.
+fn leaf(e: &Term, env: &[Value]) -> Option<Value>
+    ensures { IfSome result (λ v. Ok v ≡ eval env.now (plain_term e.now)) }
+{
+    match e {
+        Term::Int(n) => Some(Value::Int(*n)),
+        Term::Var(x) => match local(env, *x) {
+            Ok(v) => Some(v),
+            Err(_) => None,
+        },
+        _ => None,
+    }
+}
+
+// The value of an expression of any form.
+fn calculate_all(e: &Term, env: &[Value]) -> Result<Value, Fault>
+    ensures { result ≡ eval env.now (plain_term e.now) }
+{
     match e {
         Term::Int(n) => Ok(Value::Int(*n)),
         Term::Truth(b) => Ok(Value::Truth(*b)),
         Term::Null => Ok(Value::Null),
         Term::Var(x) => local(env, *x),
-        Term::Neg(inner) => negate(evaluate(inner, env)?),
-        Term::Not(inner) => invert(evaluate(inner, env)?),
-        Term::Bin(COp::And, left, right) => match evaluate(left, env)? {
-            Value::Truth(true) => as_truth(evaluate(right, env)?),
+        Term::Neg(inner) => negate(calculate_all(inner, env)?),
+        Term::Not(inner) => invert(calculate_all(inner, env)?),
+        Term::Bin(COp::And, left, right) => match calculate_all(left, env)? {
+            Value::Truth(true) => as_truth(calculate_all(right, env)?),
             Value::Truth(false) => Ok(Value::Truth(false)),
             _ => Err(Fault::Kind),
         },
-        Term::Bin(COp::Or, left, right) => match evaluate(left, env)? {
+        Term::Bin(COp::Or, left, right) => match calculate_all(left, env)? {
             Value::Truth(true) => Ok(Value::Truth(true)),
-            Value::Truth(false) => as_truth(evaluate(right, env)?),
+            Value::Truth(false) => as_truth(calculate_all(right, env)?),
             _ => Err(Fault::Kind),
         },
-        Term::Bin(op, left, right) => {
-            let a = evaluate(left, env)?;
-            let b = evaluate(right, env)?;
-            combine(*op, a, b)
-        }
+        Term::Bin(op, left, right) => match (leaf(left, env), leaf(right, env)) {
+            (Some(a), Some(b)) => combine(*op, a, b),
+            _ => {
+                let a = calculate_all(left, env)?;
+                let b = calculate_all(right, env)?;
+                combine(*op, a, b)
+            }
+        },
     }
 }
 

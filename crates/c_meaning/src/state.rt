@@ -1,19 +1,20 @@
-ghost use Rattle.std.specs.Prelude.{◌≡◌, ◌≤◌, ◌<◌, ◌-◌, ◌^◌, ◌++◌, ◌∷◌, [], IsTrue, IfOk, IfSome, IfNone, OnOk, OnErr, Ok, Some, None, length, map, true, slice_get, slice_set, suc, vec_len, vec_capacity};
+ghost use Rattle.std.specs.Prelude.{◌≡◌, ◌≤◌, ◌<◌, ◌-◌, ◌^◌, ◌++◌, ◌∷◌, [], IsTrue, IfOk, IfSome, IfNone, OnOk, OnErr, Ok, Some, None, length, map, true, slice_get, suc, vec_len, vec_capacity};
 ghost use Rattle.c_syntax.specs.Plain.{plain_program};
 ghost use Rattle.c_meaning.specs.Steps.{Step, start_of};
 ghost use Rattle.c_meaning.specs.Acts.{shared};
-ghost use Rattle.c_meaning.specs.Events.{begun, blank, function_numbered, event_of, next_of, next_by, atomic_at, event_of_frame, is_enabled, lock_ready, child_ready};
+ghost use Rattle.c_meaning.specs.Events.{begun, blank, function_numbered, callee_at, event_of, next_of, next_by, is_ended, atomic_at, event_of_frame, is_enabled, lock_ready, child_ready};
 ghost use Rattle.std.specs.Prelude.{ℕ, List};
 ghost use Rattle.c_meaning.specs.Tree as tree;
 ghost use Rattle.c_meaning.specs.Blocks.{IsTable};
-ghost use Rattle.c_meaning.specs.Machine.{frame_shown, functions_shown, shown_or_none, depth_of, IsCode, IsSpare, BlockRoomAt};
-ghost use Rattle.c_meaning.specs.Local.{nest};
+ghost use Rattle.c_meaning.specs.Machine.{frame_shown, frames_shown, functions_shown, shown_or_none, depth_of, IsCode, IsSpare, BlockRoomAt, CallsNext, MakesRoom};
+ghost use Rattle.c_meaning.specs.Plain.{plain_basic};
+ghost use Rattle.c_meaning.specs.Rooms.{BlockRoom};
 ghost use Rattle.c_meaning.specs.Plain.{plain_term};
 ghost use Rattle.c_meaning.specs.Effects.{eval_number, count_of};
 ghost use Rattle.pl_resource.specs.Faults.{chain};
 ghost use Rattle.pl_resource.specs.Heap.{IsFields};
 ghost use Rattle.c_meaning.specs.declared.code.Block.{Block};
-ghost use Rattle.c_meaning.specs.States.{shown, runs, IsFor, IsLast, frames_at, HasRoom, ThreadAdded, ThreadsFit, thread_shown};
+ghost use Rattle.c_meaning.specs.States.{shown, runs, IsFor, IsLast, frames_at, HasRoom, FramesRoom, ThreadAdded, ThreadsFit, thread_shown};
 
 use crate::act::{count_of, number};
 use crate::action::{Action, Event, Next};
@@ -22,7 +23,7 @@ use crate::load::load;
 use crate::locks::Locks;
 use crate::resolve::function_place;
 use crate::term::{Basic, Term};
-use crate::thread::{Frame, Function, advance, begin, callee_at, current, function_at, stuck};
+use crate::thread::{Frame, Function, advance, begin, current, empty_frame, function_at, stuck};
 use crate::touch::{touching, untouched};
 use crate::world::World;
 use c_syntax::CProgram;
@@ -48,7 +49,9 @@ pub struct CState {
     threads: Vec<Thread>,
     world: World,
     ready: Option<u32>,
-    /// A frame for the next call.
+    /// The number of the function that the next event calls.
+    callee: Option<u32>,
+    /// A frame for that function.
     spare: Frame,
     /// Empty: the frames of the next thread.
     frames: Vec<Frame>,
@@ -72,8 +75,10 @@ impl Model for CState {
       code : IsCode c.blocks.items c.functions.items;
       fits : ThreadsFit c.blocks.items c.threads.items;
       few : length c.threads.items < 2 ^ 32;
-      room : ForSome c.ready (λ t. HasRoom c.blocks.items (functions_shown c.blocks.items c.functions.items) (slice_get c.threads.items t) c.world c.spare);
-      thread : ForSome c.ready (λ t. (vec_len c.threads < vec_capacity c.threads) × (c.frames.items ≡ []) × (1 ≤ vec_capacity c.frames));
+      room : ForSome c.ready (λ t. HasRoom c.blocks.items (functions_shown c.blocks.items c.functions.items) (slice_get c.threads.items t) c.world c.callee c.spare);
+      empty : c.frames.items ≡ [];
+      spare : c.spare.spots.items ≡ [];
+      thread : ForSome c.ready (λ t. (vec_len c.threads < vec_capacity c.threads) × (1 ≤ vec_capacity c.frames));
     } };
 }
 
@@ -96,6 +101,7 @@ impl CState {
             threads,
             world: first_world(alloc, input)?,
             ready: None,
+            callee: None,
             spare: empty_frame(alloc),
             frames: Vec::new(alloc),
         })
@@ -125,16 +131,16 @@ impl CState {
         ensures refused { OnErr result (self.new.ready ≡ None) }
     {
         self.ready = None;
-        let (spare, frames) = prepare_thread(
+        self.callee = prepare_thread(
             self.alloc,
             self.blocks.as_slice(),
             self.functions.as_slice(),
             &mut self.threads,
             tid as usize,
             &mut self.world,
+            &mut self.spare,
+            &mut self.frames,
         )?;
-        self.spare = spare;
-        self.frames = frames;
         self.ready = Some(tid);
         Ok(())
     }
@@ -156,17 +162,16 @@ impl CState {
         ensures threads { length (shown self.new).threads ≤ suc (length (shown self.old).threads) }
     {
         self.ready = None;
-        let spare = mem::replace(&mut self.spare, empty_frame(self.alloc));
-        let first = mem::replace(&mut self.frames, Vec::new(self.alloc));
         let Ok(action) = advance_thread(
             self.alloc,
             self.blocks.as_slice(),
             self.functions.as_slice(),
+            self.callee,
             &mut self.threads,
             tid as usize,
             &mut self.world,
-            spare,
-            first,
+            &mut self.spare,
+            &mut self.frames,
         ) else {
             unreachable!();
         };
@@ -181,6 +186,17 @@ impl CState {
         match last_frame(frames_of(self.threads.as_slice(), tid as usize)) {
             None => Next::Ended,
             Some(frame) => next_of_frame(self.blocks.as_slice(), frame, &self.world),
+        }
+    }
+
+    /// Whether a thread has ended.
+    pub fn has_ended(&self, tid: u32) -> bool
+        requires { tid < length (shown self.now).threads }
+        ensures { result ≡ is_ended (next_of (runs self.now) (shown self.now) tid) }
+    {
+        match last_frame(frames_of(self.threads.as_slice(), tid as usize)) {
+            None => true,
+            Some(_) => false,
         }
     }
 
@@ -276,15 +292,6 @@ fn first_thread(
     Ok(threads)
 }
 
-fn empty_frame(alloc: Global) -> Frame {
-    Frame {
-        spots: Vec::new(alloc),
-        env: Vec::new(alloc),
-        into: None,
-        child: None,
-    }
-}
-
 // The frames of a thread, the innermost last.
 fn frames_of(threads: &[Thread], t: usize) -> &[Frame]
     ensures { result.now ≡ frames_at (slice_get threads.now t) }
@@ -305,37 +312,23 @@ fn last_frame(frames: &[Frame]) -> Option<&Frame>
     }
 }
 
-// Takes a thread's frames out.
-fn take_frames(threads: &mut Vec<Thread>, t: usize, empty: Vec<Frame>) -> Vec<Frame>
-    requires { t < length threads.old.items }
-    ensures frames { slice_get threads.old.items t ≡ Some (record { frames = result }) }
-    ensures rest { threads.new.items ≡ slice_set threads.old.items t (record { frames = empty }) }
-    ensures len { vec_len threads.new ≡ vec_len threads.old }
-    ensures capacity { vec_capacity threads.new ≡ vec_capacity threads.old }
-{
-    mem::replace(&mut threads[t].frames, empty)
-}
-
-fn put_frames(threads: &mut Vec<Thread>, t: usize, frames: Vec<Frame>)
-    requires { t < length threads.old.items }
-    ensures items { threads.new.items ≡ slice_set threads.old.items t (record { frames = frames }) }
-    ensures len { vec_len threads.new ≡ vec_len threads.old }
-    ensures capacity { vec_capacity threads.new ≡ vec_capacity threads.old }
-{
-    threads[t].frames = frames;
-}
-
-// Adds the thread that an event has started, if it has.
-fn add_thread(threads: &mut Vec<Thread>, first: Vec<Frame>, frame: Option<Frame>)
+// Adds the thread that an event has started, if it has. Its frames come into `first`.
+fn add_thread(
+    alloc: Global,
+    threads: &mut Vec<Thread>,
+    first: &mut Vec<Frame>,
+    frame: Option<Frame>,
+)
     requires room { vec_len threads.old < vec_capacity threads.old }
-    requires empty { first.items ≡ [] }
-    requires place { 1 ≤ vec_capacity first }
-    ensures { ThreadAdded threads.old.items threads.new.items frame }
+    requires empty { first.old.items ≡ [] }
+    requires place { 1 ≤ vec_capacity first.old }
+    ensures added { ThreadAdded threads.old.items threads.new.items frame }
+    ensures empty { first.new.items ≡ [] }
 {
     match frame {
         None => {}
         Some(frame) => {
-            let mut frames = first;
+            let mut frames = mem::replace(first, Vec::new(alloc));
             frames.push_reserved(frame);
             threads.push_reserved(Thread { frames });
         }
@@ -344,7 +337,9 @@ fn add_thread(threads: &mut Vec<Thread>, first: Vec<Frame>, frame: Option<Frame>
 
 // A frame with room for a function, before its arguments are in it.
 fn spare_frame(alloc: Global, function: Option<Function>) -> Result<Frame, Memory>
-    ensures { IfOk result (λ f. (T : List Block) → nest (shown_or_none T function).body ≤ depth_of function → IsSpare (shown_or_none T function) f) }
+    ensures empty { IfOk result (λ f. f.spots.items ≡ []) }
+    ensures places { IfOk result (λ f. suc (depth_of function) ≤ vec_capacity f.spots) }
+    ensures blank { IfOk result (λ f. (T : List Block) → f.env.items ≡ blank (shown_or_none T function)) }
 {
     let (depth, slots) = match function {
         None => (0, 0),
@@ -358,19 +353,55 @@ fn spare_frame(alloc: Global, function: Option<Function>) -> Result<Frame, Memor
     })
 }
 
-// Room for the block that a frame makes next, if it makes one.
-fn block_room(code: &[Block], frame: &Frame, world: &mut World) -> Result<(), Memory>
+// Makes a spare frame one for the function of that number, if one is called.
+fn make_spare(
+    alloc: Global,
+    functions: &[Function],
+    callee: Option<u32>,
+    spare: &mut Frame,
+) -> Result<(), Memory>
+    requires { spare.old.spots.items ≡ [] }
+    ensures spare { OnOk result ((T : List Block) → IsCode T functions.now → IsSpare callee (function_numbered (functions_shown T functions.now) callee) spare.new) }
+    ensures empty { spare.new.spots.items ≡ [] }
+{
+    match callee {
+        None => Ok(()),
+        Some(k) => {
+            *spare = spare_frame(alloc, function_at(functions, Some(k)))?;
+            Ok(())
+        }
+    }
+}
+
+// Room for what a statement makes or prints, if it does.
+fn basic_room(basic: &Basic, env: &[Value], world: &mut World) -> Result<(), Memory>
+    ensures same { shared world.new ≡ shared world.old }
+    ensures room { OnOk result (BlockRoom env.now (plain_basic basic.now) world.new) }
+{
+    match basic {
+        Basic::Make(_, _, first, count) => make_block_room(env, first.as_slice(), count, world),
+        Basic::NewLock(_) => world.locks.room(),
+        Basic::Print(_) => {
+            world.outputs.reserve(1)?;
+            Ok(())
+        }
+        _ => Ok(()),
+    }
+}
+
+// Room for what a frame makes or prints next, if it does: the answer is the number of the function that it calls.
+fn block_room(code: &[Block], frame: &Frame, world: &mut World) -> Result<Option<u32>, Memory>
     requires { IsTable code.now }
     ensures same { shared world.new ≡ shared world.old }
     ensures room { OnOk result (BlockRoomAt frame.now.env.items (frame_shown code.now frame.now).left world.new) }
-    ensures locks { world.new.locks ≡ world.old.locks }
-    ensures outputs { world.new.outputs ≡ world.old.outputs }
+    ensures callee { IfOk result (λ callee. callee ≡ callee_at (frame_shown code.now frame.now).left) }
 {
     match current(code, frame.spots.as_slice()) {
-        Some((_, Op::Do(Basic::Make(_, _, first, count)))) => {
-            make_block_room(frame.env.as_slice(), first.as_slice(), count, world)
+        Some((_, Op::Do(basic))) => {
+            basic_room(basic, frame.env.as_slice(), world)?;
+            Ok(basic.callee())
         }
-        _ => Ok(()),
+        _ => Ok(None),
     }
 }
 
@@ -383,8 +414,6 @@ fn make_block_room(
     ensures same { shared world.new ≡ shared world.old }
     ensures first { OnOk result (length first.now ≤ vec_capacity world.new.first) }
     ensures block { OnOk result ((n : ℕ) → chain (eval_number env.now (plain_term count.now)) count_of ≡ Ok n → IsFields (length first.now) → world.new.heap.room ≡ Some (length first.now, n)) }
-    ensures locks { world.new.locks ≡ world.old.locks }
-    ensures outputs { world.new.outputs ≡ world.old.outputs }
 {
     world.first.clear();
     world.first.reserve(first.len())?;
@@ -400,36 +429,45 @@ fn make_block_room(
     }
 }
 
-// Room for the next event of a thread: the answer is a frame for the function that it calls.
-fn prepare(
-    alloc: Global,
-    code: &[Block],
-    functions: &[Function],
-    frames: &mut Vec<Frame>,
-    world: &mut World,
-) -> Result<Frame, Memory>
-    requires { IsCode code.now functions.now }
-    ensures frames { frames.new.items ≡ frames.old.items }
+// Room for what a thread makes or prints next, if it does: the answer is the number of the function that it calls.
+fn thread_room(code: &[Block], frames: &[Frame], world: &mut World) -> Result<Option<u32>, Memory>
+    requires { IsTable code.now }
     ensures same { shared world.new ≡ shared world.old }
-    ensures room { IfOk result (λ spare. HasRoom code.now (functions_shown code.now functions.now) (Some (record { frames = frames.new })) world.new spare) }
+    ensures room { OnOk result (MakesRoom (frames_shown code.now frames.now) world.new) }
+    ensures callee { IfOk result (λ callee. CallsNext callee (frames_shown code.now frames.now)) }
 {
-    world.locks.room()?;
-    world.outputs.reserve(1)?;
-    frames.reserve(1)?;
-    match last_frame(frames.as_slice()) {
-        None => Ok(empty_frame(alloc)),
-        Some(frame) => {
-            block_room(code, frame, world)?;
-            spare_frame(
-                alloc,
-                function_at(functions, callee_at(code, frame.spots.as_slice())),
-            )
-        }
+    match last_frame(frames) {
+        None => Ok(None),
+        Some(frame) => block_room(code, frame, world),
     }
 }
 
-// Room for the next event of a thread: the answer is a frame for the function that it calls, and room for the frames of a
-// thread that it starts.
+// Room for one more.
+fn reserve_one<T>(list: &mut Vec<T>) -> Result<(), Memory>
+    ensures items { list.new.items ≡ list.old.items }
+    ensures room { OnOk result (vec_len list.new < vec_capacity list.new) }
+{
+    if list.len() < list.capacity() {
+        return Ok(());
+    }
+    list.reserve(1)?;
+    Ok(())
+}
+
+// Room for one more frame of a thread.
+fn frame_room(threads: &mut Vec<Thread>, t: usize) -> Result<(), Memory>
+    requires { t < length threads.old.items }
+    ensures shown { (T : List Block) → map (thread_shown T) threads.new.items ≡ map (thread_shown T) threads.old.items }
+    ensures fits { (T : List Block) → ThreadsFit T threads.old.items → ThreadsFit T threads.new.items }
+    ensures frames { frames_at (slice_get threads.new.items t) ≡ frames_at (slice_get threads.old.items t) }
+    ensures len { length threads.new.items ≡ length threads.old.items }
+    ensures room { OnOk result (FramesRoom (slice_get threads.new.items t)) }
+{
+    reserve_one(&mut threads[t].frames)
+}
+
+// Room for the next event of a thread: the answer is the number of the function that it calls, for which the spare frame is made. The
+// frames of a thread that it starts come into `first`.
 fn prepare_thread(
     alloc: Global,
     code: &[Block],
@@ -437,24 +475,28 @@ fn prepare_thread(
     threads: &mut Vec<Thread>,
     t: usize,
     world: &mut World,
-) -> Result<(Frame, Vec<Frame>), Memory>
+    spare: &mut Frame,
+    first: &mut Vec<Frame>,
+) -> Result<Option<u32>, Memory>
     requires code { IsCode code.now functions.now }
     requires there { t < length threads.old.items }
+    requires spare { spare.old.spots.items ≡ [] }
+    requires empty { first.old.items ≡ [] }
     ensures shown { map (thread_shown code.now) threads.new.items ≡ map (thread_shown code.now) threads.old.items }
     ensures fits { ThreadsFit code.now threads.old.items → ThreadsFit code.now threads.new.items }
     ensures len { length threads.new.items ≡ length threads.old.items }
     ensures world { shared world.new ≡ shared world.old }
-    ensures room { IfOk result (λ r. HasRoom code.now (functions_shown code.now functions.now) (slice_get threads.new.items t) world.new r.0) }
-    ensures thread { IfOk result (λ r. (vec_len threads.new < vec_capacity threads.new) × (r.1.items ≡ []) × (1 ≤ vec_capacity r.1)) }
+    ensures room { IfOk result (λ callee. HasRoom code.now (functions_shown code.now functions.now) (slice_get threads.new.items t) world.new callee spare.new) }
+    ensures thread { OnOk result ((vec_len threads.new < vec_capacity threads.new) × (1 ≤ vec_capacity first.new)) }
+    ensures spare { spare.new.spots.items ≡ [] }
+    ensures empty { first.new.items ≡ [] }
 {
-    let mut frames = take_frames(threads, t, Vec::new(alloc));
-    let made = prepare(alloc, code, functions, &mut frames, world);
-    put_frames(threads, t, frames);
-    threads.reserve(1)?;
-    match made {
-        Err(memory) => Err(memory),
-        Ok(spare) => Ok((spare, Vec::with_capacity(alloc, 1)?)),
-    }
+    let callee = thread_room(code, frames_of(threads.as_slice(), t), world)?;
+    make_spare(alloc, functions, callee, spare)?;
+    frame_room(threads, t)?;
+    reserve_one(threads)?;
+    reserve_one(first)?;
+    Ok(callee)
 }
 
 // The event of a thread.
@@ -462,36 +504,46 @@ fn advance_thread(
     alloc: Global,
     code: &[Block],
     functions: &[Function],
+    callee: Option<u32>,
     threads: &mut Vec<Thread>,
     t: usize,
     world: &mut World,
-    spare: Frame,
-    first: Vec<Frame>,
+    spare: &mut Frame,
+    first: &mut Vec<Frame>,
 ) -> Result<Action, Fault>
     requires code { IsCode code.now functions.now }
     requires fits { ThreadsFit code.now threads.old.items }
     requires there { t < length threads.old.items }
     requires few { length threads.old.items < 2 ^ 32 - 1 }
-    requires room { HasRoom code.now (functions_shown code.now functions.now) (slice_get threads.old.items t) world.old spare }
+    requires room { HasRoom code.now (functions_shown code.now functions.now) (slice_get threads.old.items t) world.old callee spare.old }
     requires thread { vec_len threads.old < vec_capacity threads.old }
-    requires empty { first.items ≡ [] }
-    requires place { 1 ≤ vec_capacity first }
+    requires empty { first.old.items ≡ [] }
+    requires place { 1 ≤ vec_capacity first.old }
     requires blocks { length world.old.heap.blocks < 2 ^ 32 - 1 }
     requires locks { length world.old.locks.locks < 2 ^ 32 - 1 }
     ensures does { IfOk result (λ action. event_of (functions_shown code.now functions.now) (record { world = shared world.old; threads = map (thread_shown code.now) threads.old.items }) t ≡ Some (Ok (action, record { world = shared world.new; threads = map (thread_shown code.now) threads.new.items }))) }
     ensures faults { OnErr result (is_enabled (functions_shown code.now functions.now) (record { world = shared world.old; threads = map (thread_shown code.now) threads.old.items }) t ≡ true → ⊥) }
     ensures fits { OnOk result (ThreadsFit code.now threads.new.items) }
     ensures few { OnOk result (length threads.new.items ≤ suc (length threads.old.items)) }
+    ensures empty { first.new.items ≡ [] }
+    ensures spare { spare.new.spots.items ≡ [] }
     ensures blocks { OnOk result (length world.new.heap.blocks ≤ suc (length world.old.heap.blocks)) }
     ensures locks { OnOk result (length world.new.locks.locks ≤ suc (length world.old.locks.locks)) }
 {
     let next = threads.len() as u32;
-    let mut frames = take_frames(threads, t, Vec::new(alloc));
-    match advance(code, functions, &mut frames, spare, world, next) {
+    match advance(
+        alloc,
+        code,
+        functions,
+        callee,
+        &mut threads[t].frames,
+        spare,
+        world,
+        next,
+    ) {
         Err(fault) => Err(fault),
         Ok((action, forked)) => {
-            put_frames(threads, t, frames);
-            add_thread(threads, first, forked);
+            add_thread(alloc, threads, first, forked);
             Ok(action)
         }
     }

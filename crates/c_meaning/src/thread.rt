@@ -1,14 +1,13 @@
-ghost use Rattle.std.specs.Prelude.{◌≡◌, List, Err, slice_get, ◌≤◌, ◌<◌, ◌-◌, ◌+◌, ◌^◌, ◌++◌, ◌∷◌, [], IfSome, IfNone, OnOk, IfOk, None, Some, suc, length, vec_len, vec_capacity};
+ghost use Rattle.std.specs.Prelude.{◌≡◌, List, Err, slice_get, ◌≤◌, ◌<◌, ◌-◌, ◌^◌, [], IfSome, IfNone, OnOk, IfOk, None, Some, length, vec_len, vec_capacity};
 ghost use Rattle.c_meaning.specs.declared.code.Block.{Block};
 ghost use Rattle.c_meaning.specs.Plain.{plain_term, plain_basic};
 ghost use Rattle.c_meaning.specs.Tree.{end};
 ghost use Rattle.c_meaning.specs.Values.{eval};
 ghost use Rattle.c_meaning.specs.Local.{nest};
-ghost use Rattle.c_meaning.specs.Blocks.{IsTable, tree, left, fits, ops_at};
+ghost use Rattle.c_meaning.specs.Blocks.{IsTable, left, fits, ops_at};
 ghost use Rattle.c_meaning.specs.Acts.{shared, turn_of};
-ghost use Rattle.c_meaning.specs.Rooms.{SmallRoom};
-ghost use Rattle.c_meaning.specs.Events.{callee, callee_at, function_numbered, settled, begun, event_in, faulted, received, resumed, frames_after, forked};
-ghost use Rattle.c_meaning.specs.Machine.{IsCode, function_shown, functions_shown, shown_or_none, frame_shown, frames_shown, FrameFits, AllFit, ForkFits, AtOp, Taken, stepped, BlockRoomAt, IsSpare, RoomAt, moved_of, advanced, depth_of, fork_shown};
+ghost use Rattle.c_meaning.specs.Events.{callee, function_numbered, begun, event_in, faulted, received, resumed, forked};
+ghost use Rattle.c_meaning.specs.Machine.{IsCode, functions_shown, shown_or_none, frame_shown, frames_shown, FrameFits, AllFit, ForkFits, AtOp, Taken, stepped, strode, strides, returned, turned, BlockRoomAt, Places, PlacesFor, IsSpare, CallsNext, MakesRoom, moved_of, advanced, depth_of, fork_shown};
 
 use crate::act::{Turn, act};
 use crate::action::Action;
@@ -18,6 +17,8 @@ use crate::frame::{Spot, after, bind, first_of, op_at, run_local};
 use crate::term::{Basic, Term};
 use crate::world::World;
 use pl_resource::{Fault, Value};
+use std::alloc::Global;
+use std::mem;
 
 /// A function: its block, how many places its locals need, and how deep its blocks lie.
 #[derive(Clone, Copy, PartialEq, Eq, Debug)]
@@ -40,7 +41,7 @@ pub(crate) struct Frame {
 
 impl Basic {
     // The function that is called.
-    fn callee(&self) -> Option<u32>
+    pub(crate) fn callee(&self) -> Option<u32>
         ensures { result ≡ callee (plain_basic self.now) }
     {
         match self {
@@ -78,20 +79,10 @@ pub(crate) fn current<'a>(code: &'a [Block], spots: &[Spot]) -> Option<(bool, &'
     None
 }
 
-/// The function that a frame calls next.
-pub(crate) fn callee_at(code: &[Block], spots: &[Spot]) -> Option<u32>
-    requires { IsTable code.now }
-    ensures { result ≡ callee_at (left code.now spots.now) }
-{
-    match current(code, spots) {
-        Some((_, Op::Do(basic))) => basic.callee(),
-        _ => None,
-    }
-}
-
 pub(crate) fn function_at(functions: &[Function], f: Option<u32>) -> Option<Function>
     ensures shown { (T : List Block) → shown_or_none T result ≡ function_numbered (functions_shown T functions.now) f }
     ensures deep { (T : List Block) → IsCode T functions.now → nest (shown_or_none T result).body ≤ depth_of result }
+    ensures none { f ≡ None → result ≡ None }
 {
     match f {
         None => None,
@@ -142,7 +133,6 @@ fn event(
     requires table { IsTable code.now }
     requires fits { fits code.now 0 (vec_capacity spots.old) spots.old.items }
     requires block { BlockRoomAt env.old.items (left code.now spots.old.items) world.old }
-    requires small { SmallRoom world.old }
     requires blocks { length world.old.heap.blocks < 2 ^ 32 - 1 }
     requires locks { length world.old.locks.locks < 2 ^ 32 - 1 }
     ensures steps { stepped result (record { env = env.new.items; child = child.new }) (shared world.new) locals.new.items (left code.now spots.new.items) ≡ event_in next locals.old.items (left code.now spots.old.items) (record { env = env.old.items; child = child.old }) (shared world.old) }
@@ -183,7 +173,7 @@ fn event(
 fn enter(code: &[Block], function: Option<Function>, spots: Vec<Spot>) -> Vec<Spot>
     requires table { IsTable code.now }
     requires empty { spots.items ≡ [] }
-    requires places { suc (nest (shown_or_none code.now function).body) ≤ vec_capacity spots }
+    requires places { Places code.now function (vec_capacity spots) }
     ensures left { left code.now result.items ≡ (shown_or_none code.now function).body }
     ensures fits { fits code.now 0 (vec_capacity result) result.items }
 {
@@ -206,7 +196,7 @@ pub(crate) fn begin(
 ) -> Frame
     requires table { IsTable code.now }
     requires empty { spare.spots.items ≡ [] }
-    requires places { suc (nest (shown_or_none code.now function).body) ≤ vec_capacity spare.spots }
+    requires places { Places code.now function (vec_capacity spare.spots) }
     ensures shown { frame_shown code.now result ≡ begun (shown_or_none code.now function) spare.env.items into }
     ensures fits { FrameFits code.now result }
 {
@@ -221,28 +211,6 @@ pub(crate) fn begin(
     }
 }
 
-// Runs the local statements of a frame.
-fn go_on(code: &[Block], frame: Frame) -> Frame
-    requires table { IsTable code.now }
-    requires fits { FrameFits code.now frame }
-    ensures shown { frame_shown code.now result ≡ settled (left code.now frame.spots.items) frame.env.items frame.into frame.child }
-    ensures fits { FrameFits code.now result }
-{
-    let Frame {
-        mut spots,
-        mut env,
-        into,
-        child,
-    } = frame;
-    run_local(code, &mut spots, &mut env);
-    Frame {
-        spots,
-        env,
-        into,
-        child,
-    }
-}
-
 // A caller's local gets the result.
 fn receive(env: &mut Vec<Value>, into: Option<u32>, answer: Option<Value>)
     ensures { env.new.items ≡ received env.old.items into answer }
@@ -254,124 +222,169 @@ fn receive(env: &mut Vec<Value>, into: Option<u32>, answer: Option<Value>)
     }
 }
 
-// A caller goes on, if there is one.
-#[tactic(auto, using(crate::proofs::Threads::fit_front, crate::proofs::Threads::fit_snoc, crate::proofs::Threads::shown_snoc))]
+// The innermost frame goes on, if there is one.
 fn resume(code: &[Block], frames: &mut Vec<Frame>, into: Option<u32>, answer: Option<Value>)
     requires table { IsTable code.now }
     requires fits { AllFit code.now frames.old.items }
     ensures shown { frames_shown code.now frames.new.items ≡ resumed into answer (frames_shown code.now frames.old.items) }
     ensures fits { AllFit code.now frames.new.items }
-    ensures capacity { vec_capacity frames.new ≡ vec_capacity frames.old }
 {
-    let Some(mut caller) = frames.pop() else {
+    let Some(frame) = frames.last_mut() else {
         return;
     };
-    receive(&mut caller.env, into, answer);
-    frames.push_reserved(go_on(code, caller));
+    receive(&mut frame.env, into, answer);
+    run_local(code, &mut frame.spots, &mut frame.env);
 }
 
-/// The next event of a thread with these frames. `spare` is a frame for the function that is called.
-pub(crate) fn advance(
+// The innermost frame goes, and its caller goes on.
+fn give_back(code: &[Block], frames: &mut Vec<Frame>, answer: Option<Value>)
+    requires table { IsTable code.now }
+    requires fits { AllFit code.now frames.old.items }
+    ensures shown { frames_shown code.now frames.new.items ≡ returned answer (frames_shown code.now frames.old.items) }
+    ensures fits { AllFit code.now frames.new.items }
+{
+    let Some(frame) = frames.pop() else {
+        return;
+    };
+    resume(code, frames, frame.into, answer);
+}
+
+// The event of the innermost frame, up to the local statements behind it.
+fn stride(
+    code: &[Block],
+    frames: &mut Vec<Frame>,
+    world: &mut World,
+    locals: &mut Vec<Value>,
+    next: u32,
+) -> Result<(Action, Turn), Fault>
+    requires table { IsTable code.now }
+    requires fits { AllFit code.now frames.old.items }
+    requires room { MakesRoom (frames_shown code.now frames.old.items) world.old }
+    requires blocks { length world.old.heap.blocks < 2 ^ 32 - 1 }
+    requires locks { length world.old.locks.locks < 2 ^ 32 - 1 }
+    ensures steps { strode result (frames_shown code.now frames.new.items) (shared world.new) locals.new.items ≡ strides next locals.old.items (frames_shown code.now frames.old.items) (shared world.old) }
+    ensures fits { OnOk result (AllFit code.now frames.new.items) }
+    ensures len { vec_len frames.new ≡ vec_len frames.old }
+    ensures capacity { vec_capacity frames.new ≡ vec_capacity frames.old }
+{
+    let Some(frame) = frames.last_mut() else {
+        return Err(Fault::Kind);
+    };
+    event(
+        code,
+        &mut frame.spots,
+        &mut frame.env,
+        &mut frame.child,
+        world,
+        locals,
+        next,
+    )
+}
+
+/// A frame with no memory.
+pub(crate) fn empty_frame(alloc: Global) -> Frame
+    ensures spots { result.spots.items ≡ [] }
+    ensures env { result.env.items ≡ [] }
+{
+    Frame {
+        spots: Vec::new(alloc),
+        env: Vec::new(alloc),
+        into: None,
+        child: None,
+    }
+}
+
+// The frame of the function of that number, which takes the spare one.
+fn begin_called(
+    alloc: Global,
     code: &[Block],
     functions: &[Function],
+    callee: Option<u32>,
+    spare: &mut Frame,
+    into: Option<u32>,
+) -> Frame
+    requires code { IsCode code.now functions.now }
+    requires empty { spare.old.spots.items ≡ [] }
+    requires places { PlacesFor callee (function_numbered (functions_shown code.now functions.now) callee) (vec_capacity spare.old.spots) }
+    ensures shown { frame_shown code.now result ≡ begun (function_numbered (functions_shown code.now functions.now) callee) spare.old.env.items into }
+    ensures fits { FrameFits code.now result }
+    ensures empty { spare.new.spots.items ≡ [] }
+{
+    let function = function_at(functions, callee);
+    let taken = mem::replace(spare, empty_frame(alloc));
+    begin(code, function, taken, into)
+}
+
+// Where a thread goes from an event of its innermost frame: the answer is the first frame of the thread that it starts.
+fn turn_to(
+    alloc: Global,
+    code: &[Block],
+    functions: &[Function],
+    callee: Option<u32>,
     frames: &mut Vec<Frame>,
-    spare: Frame,
+    spare: &mut Frame,
+    turn: Turn,
+) -> Option<Frame>
+    requires code { IsCode code.now functions.now }
+    requires fits { AllFit code.now frames.old.items }
+    requires empty { spare.old.spots.items ≡ [] }
+    requires places { PlacesFor callee (function_numbered (functions_shown code.now functions.now) callee) (vec_capacity spare.old.spots) }
+    requires room { vec_len frames.old < vec_capacity frames.old }
+    ensures frames { frames_shown code.now frames.new.items ≡ turned (function_numbered (functions_shown code.now functions.now) callee) (turn_of spare.old.env.items turn) (frames_shown code.now frames.old.items) }
+    ensures fork { fork_shown code.now result ≡ forked (function_numbered (functions_shown code.now functions.now) callee) (turn_of spare.old.env.items turn) }
+    ensures fits { AllFit code.now frames.new.items }
+    ensures child { ForkFits code.now result }
+    ensures empty { spare.new.spots.items ≡ [] }
+{
+    match turn {
+        Turn::Past => {
+            resume(code, frames, None, None);
+            None
+        }
+        Turn::Call(into) => {
+            frames.push_reserved(begin_called(alloc, code, functions, callee, spare, into));
+            None
+        }
+        Turn::Fork => {
+            resume(code, frames, None, None);
+            Some(begin_called(alloc, code, functions, callee, spare, None))
+        }
+        Turn::Return(value) => {
+            give_back(code, frames, value);
+            None
+        }
+    }
+}
+
+/// The next event of a thread with these frames, which calls the function of that number. `spare` is a frame for it.
+pub(crate) fn advance(
+    alloc: Global,
+    code: &[Block],
+    functions: &[Function],
+    callee: Option<u32>,
+    frames: &mut Vec<Frame>,
+    spare: &mut Frame,
     world: &mut World,
     next: u32,
 ) -> Result<(Action, Option<Frame>), Fault>
     requires code { IsCode code.now functions.now }
     requires fits { AllFit code.now frames.old.items }
-    requires room { RoomAt (functions_shown code.now functions.now) (frames_shown code.now frames.old.items) world.old spare }
+    requires calls { CallsNext callee (frames_shown code.now frames.old.items) }
+    requires makes { MakesRoom (frames_shown code.now frames.old.items) world.old }
+    requires spare { IsSpare callee (function_numbered (functions_shown code.now functions.now) callee) spare.old }
     requires frames { vec_len frames.old < vec_capacity frames.old }
-    requires small { SmallRoom world.old }
     requires blocks { length world.old.heap.blocks < 2 ^ 32 - 1 }
     requires locks { length world.old.locks.locks < 2 ^ 32 - 1 }
     ensures moves { advanced code.now result (frames_shown code.now frames.new.items) (shared world.new) ≡ moved_of (functions_shown code.now functions.now) next (frames_shown code.now frames.old.items) (shared world.old) }
     ensures fits { OnOk result (AllFit code.now frames.new.items) }
     ensures fork { IfOk result (λ r. ForkFits code.now r.1) }
+    ensures empty { spare.new.spots.items ≡ [] }
 {
-    let Some(frame) = frames.pop() else {
-        return Err(Fault::Kind);
-    };
-    let function = function_at(functions, callee_at(code, &frame.spots));
-    let Frame {
-        mut spots,
-        mut env,
-        into,
-        mut child,
-    } = frame;
-    let Frame {
-        spots: places,
-        env: mut locals,
-        ..
-    } = spare;
-    match event(
-        code,
-        &mut spots,
-        &mut env,
-        &mut child,
-        world,
-        &mut locals,
-        next,
-    ) {
+    match stride(code, frames, world, &mut spare.env, next) {
         Err(fault) => Err(fault),
         Ok((action, turn)) => {
-            let now = Frame {
-                spots,
-                env,
-                into,
-                child,
-            };
-            let other = Frame {
-                spots: places,
-                env: locals,
-                into: None,
-                child: None,
-            };
-            let forked = turn_to(code, function, frames, now, other, turn);
+            let forked = turn_to(alloc, code, functions, callee, frames, spare, turn);
             Ok((action, forked))
-        }
-    }
-}
-
-// Where a thread goes from an event of its innermost frame.
-#[tactic(auto, using(crate::proofs::Threads::fit_snoc, crate::proofs::Threads::shown_snoc))]
-fn turn_to(
-    code: &[Block],
-    function: Option<Function>,
-    frames: &mut Vec<Frame>,
-    now: Frame,
-    other: Frame,
-    turn: Turn,
-) -> Option<Frame>
-    requires table { IsTable code.now }
-    requires callers { AllFit code.now frames.old.items }
-    requires fits { FrameFits code.now now }
-    requires empty { other.spots.items ≡ [] }
-    requires places { suc (nest (shown_or_none code.now function).body) ≤ vec_capacity other.spots }
-    requires room { vec_len frames.old + 2 ≤ vec_capacity frames.old }
-    ensures frames { frames_shown code.now frames.new.items ≡ frames_after (shown_or_none code.now function) (turn_of other.env.items turn) (frame_shown code.now now) (frames_shown code.now frames.old.items) }
-    ensures fork { fork_shown code.now result ≡ forked (shown_or_none code.now function) (turn_of other.env.items turn) }
-    ensures fits { AllFit code.now frames.new.items }
-    ensures child { ForkFits code.now result }
-{
-    match turn {
-        Turn::Past => {
-            frames.push_reserved(go_on(code, now));
-            None
-        }
-        Turn::Call(into) => {
-            frames.push_reserved(now);
-            frames.push_reserved(begin(code, function, other, into));
-            None
-        }
-        Turn::Fork => {
-            frames.push_reserved(go_on(code, now));
-            Some(begin(code, function, other, None))
-        }
-        Turn::Return(value) => {
-            resume(code, frames, now.into, value);
-            None
         }
     }
 }

@@ -11,13 +11,13 @@ use Rattle.c_meaning.specs.declared.action.Event.{Event}
 use Rattle.c_meaning.specs.Tree.{Function}
 use Rattle.c_meaning.specs.Resolve.{functions_of}
 use Rattle.c_meaning.specs.Effects.{Turn, Past, Calls, Forks, Returns}
-use Rattle.c_meaning.specs.Events.{State, Thread, Frame, Done, thread_of, next_of, next_from, next_by, is_enabled, ready, event_from, event_of_frame, state_after, frames_after, frame_behind, forked, called}
+use Rattle.c_meaning.specs.Events.{State, Thread, Frame, Done, thread_of, next_of, next_from, next_by, is_ended, is_enabled, ready, event_from, event_of_frame, state_after, frames_after, frame_behind, forked, called}
 use Rattle.c_meaning.specs.Steps.{Step, race_of}
 use Rattle.c_runner.specs.Numbers.{Are, followed}
 use Rattle.c_runner.specs.Ends.{is_unended, NoRace, NoFault}
 use Rattle.c_runner.specs.Kept.{is_live, Sees}
 use Rattle.c_runner.specs.declared.run_end.RunEnd.{RunEnd}
-use Rattle.c_runner.specs.Standings.{is_ended, stands, end_among, AreQuiet}
+use Rattle.c_runner.specs.Standings.{stands, end_among, AreQuiet}
 use Rattle.c_runner.proofs.Still.{race_still}
 use Rattle.c_runner.proofs.Lists.{Place, before, here, behind, place, unlike, with_one, followed_are}
 

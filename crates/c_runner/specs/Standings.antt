@@ -17,10 +17,6 @@ abbrev pub is_fork : Next → Bool
 is_fork (next.Act touch) = touch.forks
 is_fork _ = false
 
-abbrev pub is_ended : Next → Bool
-is_ended next.Ended = true
-is_ended _ = false
-
 -- a thread, by what each stands before
 abbrev pub stands : (ℕ → Next) → ℕ → Standing
 stands next t = record { tid = t; next = next t }

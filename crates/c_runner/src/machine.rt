@@ -4,18 +4,17 @@ ghost use Rattle.c_syntax.specs.Tree.{Program};
 ghost use Rattle.c_syntax.specs.Plain.{plain_program};
 ghost use Rattle.c_meaning.specs.declared.action.Event.{Event};
 ghost use Rattle.c_meaning.specs.Resolve.{functions_of};
-ghost use Rattle.c_meaning.specs.Events.{State, is_enabled, next_of};
+ghost use Rattle.c_meaning.specs.Events.{State, is_enabled};
 ghost use Rattle.c_meaning.specs.States.{shown, runs};
 ghost use Rattle.c_meaning.specs.Steps.{Step, Replay, start_of};
 ghost use Rattle.c_runner.specs.Numbers.{IsNext, mine};
 ghost use Rattle.c_runner.specs.Ends.{EndOf};
 ghost use Rattle.c_runner.specs.Runs.{GoesOn};
-ghost use Rattle.c_runner.specs.Standings.{is_ended};
 ghost use Rattle.c_runner.specs.Kept.{IsOpen, FirstEnd, GoesByRule, AtMostOne, seen};
 
 use crate::outlook::Outlook;
 use crate::run_end::RunEnd;
-use c_meaning::{CState, Event, History, Next};
+use c_meaning::{CState, Event, History};
 use c_syntax::CProgram;
 use pl_base::{Gate, Items, Memory};
 use std::alloc::Global;
@@ -183,7 +182,7 @@ impl<J: Naming> Machine<J> {
         self.book.add(share, 1);
         *done += 1;
         self.from = tid + 1;
-        let ended = has_ended(&self.state, tid);
+        let ended = self.state.has_ended(tid);
         let made = threads < self.state.threads();
         self.outlook.follow(ended, tid, made, threads);
         self.outlook
@@ -301,16 +300,6 @@ impl<J: Naming> Machine<J> {
             self.asleep = 0;
         }
         wakes
-    }
-}
-
-fn has_ended(state: &CState, tid: u32) -> bool
-    requires { tid < length (shown state.now).threads }
-    ensures { result ≡ is_ended (next_of (runs state.now) (shown state.now) tid) }
-{
-    match state.next_action(tid) {
-        Next::Ended => true,
-        _ => false,
     }
 }
 

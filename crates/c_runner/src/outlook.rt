@@ -1,5 +1,5 @@
 // What the threads of a state stand before, kept from event to event.
-ghost use Rattle.std.specs.Prelude.{◌≡◌, ◌<◌, ◌≤◌, ◌+◌, ◌∷◌, [], ◌^◌, All, OnOk, OnErr, IfOk, length, vec_len, vec_capacity, map, filter};
+ghost use Rattle.std.specs.Prelude.{◌≡◌, ◌<◌, ◌≤◌, ◌+◌, ◌∷◌, [], ◌^◌, All, OnOk, OnErr, IfOk, IfSome, IsTrue, if◌then◌else◌, length, vec_len, vec_capacity, map, filter};
 ghost use Rattle.c_meaning.specs.Events.{next_of, is_enabled};
 ghost use Rattle.c_meaning.specs.States.{shown, runs};
 ghost use Rattle.c_runner.specs.Numbers.{Are, first_among, next_among, without, followed};
@@ -7,7 +7,7 @@ ghost use Rattle.c_runner.specs.Standings.{stands, has_moved, AreQuiet, end_amon
 ghost use Rattle.c_runner.specs.Kept.{is_live};
 
 use crate::run_end::RunEnd;
-use crate::standing::{Standing, end_with, has_moved, race_moved};
+use crate::standing::{Standing, end_alone, end_with, has_moved, race_moved};
 use c_meaning::{CState, Next};
 use pl_base::Memory;
 use std::alloc::Global;
@@ -52,6 +52,9 @@ impl Outlook {
         ensures more { OnOk result (vec_len self.new.unfinished < vec_capacity self.new.unfinished) }
         ensures room { OnOk result ((vec_len self.new.unfinished < vec_capacity self.new.enabled) × (vec_len self.new.unfinished < vec_capacity self.new.standings) × (vec_len self.new.unfinished < vec_capacity self.new.moved)) }
     {
+        if self.has_room() {
+            return Ok(());
+        }
         self.standings.clear();
         self.moved.clear();
         self.unfinished.reserve(1)?;
@@ -60,6 +63,18 @@ impl Outlook {
         self.standings.reserve(count + 1)?;
         self.moved.reserve(count + 1)?;
         Ok(())
+    }
+
+    // Whether there is room for one more thread.
+    fn has_room(&self) -> bool
+        ensures more { IsTrue result → vec_len self.now.unfinished < vec_capacity self.now.unfinished }
+        ensures room { IsTrue result → (vec_len self.now.unfinished < vec_capacity self.now.enabled) × (vec_len self.now.unfinished < vec_capacity self.now.standings) × (vec_len self.now.unfinished < vec_capacity self.now.moved) }
+    {
+        let count = self.unfinished.len();
+        count < self.unfinished.capacity()
+            && count < self.enabled.capacity()
+            && count < self.standings.capacity()
+            && count < self.moved.capacity()
     }
 
     /// After an event, where its thread has ended or not, and where it has made a thread or not.
@@ -88,6 +103,22 @@ impl Outlook {
         stepped: u32,
         made: u32,
     )
+        requires threads { All (λ t. t < length (shown state.now).threads) self.old.unfinished.items }
+        requires live { Are (is_live (shown state.now)) 0 self.old.unfinished.items }
+        requires quiet { AreQuiet (next_of (runs state.now) (shown state.now)) stepped made }
+        requires room { (vec_len self.old.unfinished ≤ vec_capacity self.old.enabled) × (vec_len self.old.unfinished ≤ vec_capacity self.old.standings) × (vec_len self.old.unfinished ≤ vec_capacity self.old.moved) }
+        ensures unfinished { self.new.unfinished ≡ self.old.unfinished }
+        ensures enabled { self.new.enabled.items ≡ filter (is_enabled (runs state.now) (shown state.now)) self.new.unfinished.items }
+        ensures end { self.new.end ≡ end_among (map (stands (next_of (runs state.now) (shown state.now))) self.new.unfinished.items) self.new.enabled.items bound count }
+    {
+        match alone(self.unfinished.as_slice()) {
+            Some(t) => self.end = look_alone(state, t, &mut self.enabled, bound, count),
+            None => self.renew_all(state, bound, count, stepped, made),
+        }
+    }
+
+    // The same, for any number of threads.
+    fn renew_all(&mut self, state: &CState, bound: u32, count: usize, stepped: u32, made: u32)
         requires threads { All (λ t. t < length (shown state.now).threads) self.old.unfinished.items }
         requires live { Are (is_live (shown state.now)) 0 self.old.unfinished.items }
         requires quiet { AreQuiet (next_of (runs state.now) (shown state.now)) stepped made }
@@ -154,6 +185,46 @@ fn look(state: &CState, threads: &[u32], standings: &mut Vec<Standing>, enabled:
             enabled.push_reserved(*t);
         }
         standings.push_reserved(Standing { tid: *t, next });
+    }
+}
+
+// The thread that is alone, if one is.
+fn alone(threads: &[u32]) -> Option<u32>
+    ensures { IfSome result (λ t. threads.now ≡ t ∷ []) }
+{
+    match threads {
+        [t] => Some(*t),
+        _ => None,
+    }
+}
+
+// The first end that holds where one thread is unfinished. One thread alone doesn't race.
+fn look_alone(
+    state: &CState,
+    t: u32,
+    enabled: &mut Vec<u32>,
+    bound: u32,
+    count: usize,
+) -> Option<RunEnd>
+    requires thread { t < length (shown state.now).threads }
+    requires room { 1 ≤ vec_capacity enabled.old }
+    ensures enabled { enabled.new.items ≡ filter (is_enabled (runs state.now) (shown state.now)) (t ∷ []) }
+    ensures end { result ≡ end_among (map (stands (next_of (runs state.now) (shown state.now))) (t ∷ [])) enabled.new.items bound count }
+{
+    let next = state.next_action(t);
+    let goes = is_enabled(state, t, &next);
+    put_alone(enabled, t, goes);
+    end_alone(t, &next, goes, bound, count)
+}
+
+// This thread alone, or none.
+fn put_alone(enabled: &mut Vec<u32>, t: u32, goes: bool)
+    requires { 1 ≤ vec_capacity enabled.old }
+    ensures { enabled.new.items ≡ (if goes then t ∷ [] else []) }
+{
+    enabled.clear();
+    if goes {
+        enabled.push_reserved(t);
     }
 }
 

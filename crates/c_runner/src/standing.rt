@@ -1,6 +1,7 @@
 // What threads stand before, and what follows from it.
-ghost use Rattle.std.specs.Prelude.{◌≡◌, false, if◌then◌else◌};
+ghost use Rattle.std.specs.Prelude.{◌≡◌, false, None, Some, [], ◌∷◌, nat_le, if◌then◌else◌};
 ghost use Rattle.c_meaning.specs.Steps.{race_of, race_by, conflict, same_cell};
+ghost use Rattle.c_runner.specs.declared.run_end.RunEnd.TheVariants.{StepBound};
 ghost use Rattle.c_runner.specs.Standings.{touches, is_fork, race_with, race_behind, has_moved, race_moved, fault_among, forks_among, end_with};
 
 use crate::run_end::RunEnd;
@@ -181,6 +182,16 @@ fn forks_among(standings: &[Standing]) -> bool
     false
 }
 
+// The end by how many events there are, if it holds.
+fn bound_end(bound: u32, count: usize) -> Option<RunEnd>
+    ensures { result ≡ (if nat_le bound count then Some StepBound else None) }
+{
+    if bound as usize <= count {
+        return Some(RunEnd::StepBound);
+    }
+    None
+}
+
 /// The first end that holds, by the first race, by what the threads that haven't ended stand before, by those that are enabled, and
 /// by how many events there are.
 pub(crate) fn end_with(
@@ -207,8 +218,24 @@ pub(crate) fn end_with(
     if 1024 <= standings.len() && forks_among(standings) {
         return Some(RunEnd::ThreadLimit);
     }
-    if bound as usize <= count {
-        return Some(RunEnd::StepBound);
+    bound_end(bound, count)
+}
+
+/// The same where one thread hasn't ended, which is enabled or not.
+pub(crate) fn end_alone(
+    tid: u32,
+    next: &Next,
+    enabled: bool,
+    bound: u32,
+    count: usize,
+) -> Option<RunEnd>
+    ensures { result ≡ end_with None (record { tid = tid; next = next.now } ∷ []) (if enabled then tid ∷ [] else []) bound count }
+{
+    if let Next::Fault(fault) = next {
+        return Some(RunEnd::CFault(tid, *fault));
     }
-    None
+    if !enabled {
+        return Some(RunEnd::Deadlock);
+    }
+    bound_end(bound, count)
 }

@@ -5,7 +5,7 @@ use Rattle.c_meaning.specs.States.{shown, runs}
 use Rattle.c_runner.specs.Kept.{is_live}
 use Rattle.c_runner.specs.Standings.{stands, has_moved, race_moved, race_among, end_with}
 use Rattle.c_runner.proofs.Moved.{moved_is}
-use Rattle.c_runner.proofs.outlook.Outlook.renew.Goals as goal
+use Rattle.c_runner.proofs.outlook.Outlook.renew_all.Goals as goal
 
 pub returns-clause-end : goal.returns-clause-end
 returns-clause-end c =
