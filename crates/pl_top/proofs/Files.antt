@@ -1,17 +1,15 @@
 -- From tokens and their program to the file.
-use Rattle.std.proofs.Common.{◌≡◌, ◌∙◌, ap, ℕ, Some, None, List, subst, sym}
+use Rattle.std.proofs.Common.{◌≡◌, ◌∙◌, ap, ℕ, None, List, subst, sym}
 use Rattle.std.specs.Prelude.{Ok, Err}
-use Rattle.pl_base.specs.declared.pos.Pos.{Pos}
-use Rattle.pl_base.specs.Tokens.{first_place}
 use Rattle.pl_syntax.specs.declared.program.Program as program
 use Rattle.pl_syntax.specs.Tree.{Program}
 use Rattle.pl_syntax.specs.Plain.{plain_program}
 use Rattle.pl_syntax.specs.Sorts.{IsTyped}
 use Rattle.pl_base.specs.declared.token.Token.{Token}
 use Rattle.pl_syntax.specs.Grammar.{IsProgram, IsFile}
-use Rattle.pl_top.specs.Leads.{NoneSpelled, SpellsOnly}
+use Rattle.pl_top.specs.Leads.{SpellsOnly}
 use Rattle.pl_top.specs.Forms.{IsParsed, NotParsed}
-use Rattle.pl_top.specs.Limits.{first_long, IsLongNamed, AreNamesShort}
+use Rattle.pl_top.specs.Limits.{first_long, AreNamesShort}
 use Rattle.pl_top.specs.Reading.{IsParsedAs, IsReadAs}
 use Rattle.pl_top.specs.declared.reading.ReadError.{ReadError}
 use Rattle.pl_top.specs.declared.reading.ReadError.TheVariants as error
@@ -33,15 +31,6 @@ no_file bytes none p f = none p f.tokens f.spells f.derives
 -- no name is too long where none of the one list of tokens is
 pub names_short : (bytes : List ℕ) (tokens : List Token) → SpellsOnly tokens bytes → None ≡ first_long tokens → AreNamesShort bytes
 names_short bytes tokens s none ks t = ap first_long (s.only ks t) ∙ sym none
-
-pub none_spelled : (bytes : List ℕ) → NoneSpelled first_place bytes → AreNamesShort bytes
-none_spelled bytes none ks t = absurd (none ks t)
-
-pub not_spelled : (bytes : List ℕ) → NoneSpelled first_place bytes → NotParsed bytes
-not_spelled bytes none q ks t i = none ks t
-
-pub long_named : (bytes : List ℕ) (tokens : List Token) (place : Pos) → SpellsOnly tokens bytes → Some place ≡ first_long tokens → IsLongNamed bytes place
-long_named bytes tokens place s first = record { tokens = tokens; spells = s; first = sym first }
 
 -- whether the program is typed settles what the file is read as
 pub typed_file : (bytes : List ℕ) (q r : program.Program) → IsParsedAs bytes (Ok q) → (r ≡ q) × IsTyped (plain_program r) → IsReadAs bytes (Ok r)
