@@ -37,9 +37,9 @@ never_some : {A : Type 0} (o : Option A) (a : A) → o ≡ None → o ≡ Some a
 never_some o a h k = cc
 
 -- a file isn't read and unread
-never_unread : (bytes : List ℕ) (main : FunDecl) → IsFileOf bytes main → IsUnread bytes → ⊥
-never_unread bytes main f (inl l) = never_some (first_long l.1.tokens) l.0 (f.short l.1.tokens l.1.spells.spells) l.1.first
-never_unread bytes main f (inr n) = n.none (program_of main) f.file
+never_left : (bytes : List ℕ) (main : FunDecl) → IsFileOf bytes main → IsUnread bytes → ⊥
+never_left bytes main f (inl l) = never_some (first_long l.1.tokens) l.0 (f.short l.1.tokens l.1.spells.spells) l.1.first
+never_left bytes main f (inr n) = n.none (program_of main) f.file
 
 -- a file isn't accepted and undone
 never_both : (bytes : List ℕ) → IsAccepted bytes → (place : Pos) (duty : Duty) → IsUndone bytes place duty → ⊥
@@ -49,14 +49,14 @@ accepted_exactly : (bytes : List ℕ) → IsShort bytes → IsAccepted bytes →
 accepted_exactly bytes short a = record {
   accepted = ((λ e. (short, a)), (λ h. refl));
   undone = ((λ e. absurd (omega (arith, e))), (λ h. absurd (never_both bytes a h.1.0 h.1.1 h.1.2)));
-  unread = ((λ e. absurd (omega (arith, e))), (λ h. absurd (never_unread bytes a.main a.file h.1)));
+  unread = ((λ e. absurd (omega (arith, e))), (λ h. absurd (never_left bytes a.main a.file h.1)));
   too_long = ((λ e. absurd (omega (arith, e))), (λ h. absurd (omega (arith, h, short))));
 }
 
-unread_exactly : (bytes : List ℕ) → IsShort bytes → IsUnread bytes → IsExact bytes 3
-unread_exactly bytes short u = record {
-  accepted = ((λ e. absurd (omega (arith, e))), (λ h. absurd (never_unread bytes h.1.main h.1.file u)));
-  undone = ((λ e. absurd (omega (arith, e))), (λ h. absurd (never_unread bytes h.1.2.main h.1.2.file u)));
+left_exactly : (bytes : List ℕ) → IsShort bytes → IsUnread bytes → IsExact bytes 3
+left_exactly bytes short u = record {
+  accepted = ((λ e. absurd (omega (arith, e))), (λ h. absurd (never_left bytes h.1.main h.1.file u)));
+  undone = ((λ e. absurd (omega (arith, e))), (λ h. absurd (never_left bytes h.1.2.main h.1.2.file u)));
   unread = ((λ e. (short, u)), (λ h. refl));
   too_long = ((λ e. absurd (omega (arith, e))), (λ h. absurd (omega (arith, h, short))));
 }
@@ -65,11 +65,11 @@ refused_exactly : (bytes : List ℕ) → IsShort bytes → (o : Outcome) → Ref
 refused_exactly bytes short _ (is_undone place duty u) = record {
   accepted = ((λ e. absurd (omega (arith, e))), (λ h. absurd (never_both bytes h.1 place duty u)));
   undone = ((λ e. (short, (place, duty, u))), (λ h. refl));
-  unread = ((λ e. absurd (omega (arith, e))), (λ h. absurd (never_unread bytes u.main u.file h.1)));
+  unread = ((λ e. absurd (omega (arith, e))), (λ h. absurd (never_left bytes u.main u.file h.1)));
   too_long = ((λ e. absurd (omega (arith, e))), (λ h. absurd (omega (arith, h, short))));
 }
-refused_exactly bytes short _ (is_long_named place l) = unread_exactly bytes short (inl (place, l))
-refused_exactly bytes short _ (is_not_built n) = unread_exactly bytes short (inr n)
+refused_exactly bytes short _ (is_long_named place l) = left_exactly bytes short (inl (place, l))
+refused_exactly bytes short _ (is_not_built n) = left_exactly bytes short (inr n)
 
 too_long_exactly : (bytes : List ℕ) → 1048576 < length bytes → IsExact bytes 10
 too_long_exactly bytes more = record {
@@ -122,17 +122,17 @@ never_short n m a b (inl l) h k = omega (arith, h, l)
 never_short n m a b (inr l) h k = omega (arith, k, l)
 
 not_refused : (bytes input : List ℕ) → IsAccepted bytes → (numbers : List ℤ) → input_of input ≡ Ok numbers → IsUnread bytes ⊎ (IsAccepted bytes × HasNoNumbers input) → ⊥
-not_refused bytes input a numbers is (inl n) = never_unread bytes a.main a.file n
+not_refused bytes input a numbers is (inl n) = never_left bytes a.main a.file n
 not_refused bytes input a numbers is (inr h) = never_bad (input_of input) numbers h.1.0 is h.1.1
 
 not_undone : (bytes input : List ℕ) (place : Pos) (duty : Duty) → IsUndone bytes place duty → IsUnread bytes ⊎ (IsAccepted bytes × HasNoNumbers input) → ⊥
-not_undone bytes input place duty u (inl n) = never_unread bytes u.main u.file n
+not_undone bytes input place duty u (inl n) = never_left bytes u.main u.file n
 not_undone bytes input place duty u (inr h) = never_both bytes h.0 place duty u
 
 unread_go : (bytes input : List ℕ) → IsShort bytes → IsShort input → IsUnread bytes → IsExactGo bytes input 3
 unread_go bytes input short few u = record {
   runs = λ h. absurd (never_runs 3 (λ e. omega (arith, e)) (λ e. omega (arith, e)) (λ e. omega (arith, e)) h);
-  undone = ((λ h. absurd (omega (arith, h))), (λ h. absurd (never_unread bytes h.2.2.main h.2.2.file u)));
+  undone = ((λ h. absurd (omega (arith, h))), (λ h. absurd (never_left bytes h.2.2.main h.2.2.file u)));
   refused = ((λ h. (short, few, inl u)), (λ h. refl));
   too_long = λ h. absurd (never_short 1048576 1048576 (length bytes) (length input) h short few);
   never = λ e. omega (arith, e);
