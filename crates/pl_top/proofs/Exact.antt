@@ -25,12 +25,21 @@ use Rattle.c_history.specs.Replays.{Tells}
 use Rattle.c_history.proofs.ReplayLaws as history
 use Rattle.pl_top.specs.Telling.{whole, long, Takes, Reads}
 use Rattle.pl_top.specs.Input.{input_of}
-use Rattle.pl_top.specs.Judging.{Outcome, IsFileOf, IsAccepted, IsUndone, IsNotBuilt, Refuses, is_undone, is_not_built, IsCOf, IsNoC, is_no_c, IsHistoryOf, IsNoHistory, is_no_history, is_no_input, IsSafeEnd, status_of, replayed, JudgesCheck, checked, not_checked, JudgesEmit, emits, not_emitted, JudgesGo, goes, no_numbers, not_gone, JudgesRun, runs, run_no_numbers, not_run, JudgesReplay, replays, replay_no_numbers, no_history, not_replayed, OfFile, too_long, taken, OfInput, input_too_long, read}
+use Rattle.pl_top.specs.Limits.{first_long}
+use Rattle.pl_top.specs.Judging.{Outcome, IsFileOf, IsAccepted, IsUndone, IsUnread, Refuses, is_long_named, is_undone, is_not_built, IsCOf, IsNoC, is_no_c, IsHistoryOf, IsNoHistory, is_no_history, is_no_input, IsSafeEnd, status_of, replayed, JudgesCheck, checked, not_checked, JudgesEmit, emits, not_emitted, JudgesGo, goes, no_numbers, not_gone, JudgesRun, runs, run_no_numbers, not_run, JudgesReplay, replays, replay_no_numbers, no_history, not_replayed, OfFile, too_long, taken, OfInput, input_too_long, read}
 use Rattle.pl_top.specs.Calls.{Answered, IsShort, IsShortText, IsExact, HasNoNumbers, IsExactGo, HasRun, IsExactRun, AreRead, Follows, Differs, AreShort, IsExactReplay, IsExactFor, Promised}
 
 -- a file has one function
 one_function : (bytes : List ℕ) (main other : FunDecl) → IsFileOf bytes main → IsFileOf bytes other → other ≡ main
 one_function bytes main other f g = let e : program_of other ≡ program_of main = f.only (program_of other) g.file in cc
+
+never_some : {A : Type 0} (o : Option A) (a : A) → o ≡ None → o ≡ Some a → ⊥
+never_some o a h k = cc
+
+-- a file isn't read and unread
+never_left : (bytes : List ℕ) (main : FunDecl) → IsFileOf bytes main → IsUnread bytes → ⊥
+never_left bytes main f (inl l) = never_some (first_long l.1.tokens) l.0 (f.short l.1.tokens l.1.spells.spells) l.1.first
+never_left bytes main f (inr n) = n.none (program_of main) f.file
 
 -- a file isn't accepted and undone
 never_both : (bytes : List ℕ) → IsAccepted bytes → (place : Pos) (duty : Duty) → IsUndone bytes place duty → ⊥
@@ -40,7 +49,15 @@ accepted_exactly : (bytes : List ℕ) → IsShort bytes → IsAccepted bytes →
 accepted_exactly bytes short a = record {
   accepted = ((λ e. (short, a)), (λ h. refl));
   undone = ((λ e. absurd (omega (arith, e))), (λ h. absurd (never_both bytes a h.1.0 h.1.1 h.1.2)));
-  not_built = ((λ e. absurd (omega (arith, e))), (λ h. absurd (h.1.none (program_of a.main) a.file.file)));
+  unread = ((λ e. absurd (omega (arith, e))), (λ h. absurd (never_left bytes a.main a.file h.1)));
+  too_long = ((λ e. absurd (omega (arith, e))), (λ h. absurd (omega (arith, h, short))));
+}
+
+left_exactly : (bytes : List ℕ) → IsShort bytes → IsUnread bytes → IsExact bytes 3
+left_exactly bytes short u = record {
+  accepted = ((λ e. absurd (omega (arith, e))), (λ h. absurd (never_left bytes h.1.main h.1.file u)));
+  undone = ((λ e. absurd (omega (arith, e))), (λ h. absurd (never_left bytes h.1.2.main h.1.2.file u)));
+  unread = ((λ e. (short, u)), (λ h. refl));
   too_long = ((λ e. absurd (omega (arith, e))), (λ h. absurd (omega (arith, h, short))));
 }
 
@@ -48,21 +65,17 @@ refused_exactly : (bytes : List ℕ) → IsShort bytes → (o : Outcome) → Ref
 refused_exactly bytes short _ (is_undone place duty u) = record {
   accepted = ((λ e. absurd (omega (arith, e))), (λ h. absurd (never_both bytes h.1 place duty u)));
   undone = ((λ e. (short, (place, duty, u))), (λ h. refl));
-  not_built = ((λ e. absurd (omega (arith, e))), (λ h. absurd (h.1.none (program_of u.main) u.file.file)));
+  unread = ((λ e. absurd (omega (arith, e))), (λ h. absurd (never_left bytes u.main u.file h.1)));
   too_long = ((λ e. absurd (omega (arith, e))), (λ h. absurd (omega (arith, h, short))));
 }
-refused_exactly bytes short _ (is_not_built n) = record {
-  accepted = ((λ e. absurd (omega (arith, e))), (λ h. absurd (n.none (program_of h.1.main) h.1.file.file)));
-  undone = ((λ e. absurd (omega (arith, e))), (λ h. absurd (n.none (program_of h.1.2.main) h.1.2.file.file)));
-  not_built = ((λ e. (short, n)), (λ h. refl));
-  too_long = ((λ e. absurd (omega (arith, e))), (λ h. absurd (omega (arith, h, short))));
-}
+refused_exactly bytes short _ (is_long_named place l) = left_exactly bytes short (inl (place, l))
+refused_exactly bytes short _ (is_not_built n) = left_exactly bytes short (inr n)
 
 too_long_exactly : (bytes : List ℕ) → 1048576 < length bytes → IsExact bytes 10
 too_long_exactly bytes more = record {
   accepted = ((λ e. absurd (omega (arith, e))), (λ h. absurd (omega (arith, h.0, more))));
   undone = ((λ e. absurd (omega (arith, e))), (λ h. absurd (omega (arith, h.0, more))));
-  not_built = ((λ e. absurd (omega (arith, e))), (λ h. absurd (omega (arith, h.0, more))));
+  unread = ((λ e. absurd (omega (arith, e))), (λ h. absurd (omega (arith, h.0, more))));
   too_long = ((λ e. more), (λ h. refl));
 }
 
@@ -108,13 +121,22 @@ never_short : (n m a b : ℕ) → (n < a) ⊎ (m < b) → a ≤ n → b ≤ m �
 never_short n m a b (inl l) h k = omega (arith, h, l)
 never_short n m a b (inr l) h k = omega (arith, k, l)
 
-not_refused : (bytes input : List ℕ) → IsAccepted bytes → (numbers : List ℤ) → input_of input ≡ Ok numbers → IsNotBuilt bytes ⊎ (IsAccepted bytes × HasNoNumbers input) → ⊥
-not_refused bytes input a numbers is (inl n) = n.none (program_of a.main) a.file.file
+not_refused : (bytes input : List ℕ) → IsAccepted bytes → (numbers : List ℤ) → input_of input ≡ Ok numbers → IsUnread bytes ⊎ (IsAccepted bytes × HasNoNumbers input) → ⊥
+not_refused bytes input a numbers is (inl n) = never_left bytes a.main a.file n
 not_refused bytes input a numbers is (inr h) = never_bad (input_of input) numbers h.1.0 is h.1.1
 
-not_undone : (bytes input : List ℕ) (place : Pos) (duty : Duty) → IsUndone bytes place duty → IsNotBuilt bytes ⊎ (IsAccepted bytes × HasNoNumbers input) → ⊥
-not_undone bytes input place duty u (inl n) = n.none (program_of u.main) u.file.file
+not_undone : (bytes input : List ℕ) (place : Pos) (duty : Duty) → IsUndone bytes place duty → IsUnread bytes ⊎ (IsAccepted bytes × HasNoNumbers input) → ⊥
+not_undone bytes input place duty u (inl n) = never_left bytes u.main u.file n
 not_undone bytes input place duty u (inr h) = never_both bytes h.0 place duty u
+
+unread_go : (bytes input : List ℕ) → IsShort bytes → IsShort input → IsUnread bytes → IsExactGo bytes input 3
+unread_go bytes input short few u = record {
+  runs = λ h. absurd (never_runs 3 (λ e. omega (arith, e)) (λ e. omega (arith, e)) (λ e. omega (arith, e)) h);
+  undone = ((λ h. absurd (omega (arith, h))), (λ h. absurd (never_left bytes h.2.2.main h.2.2.file u)));
+  refused = ((λ h. (short, few, inl u)), (λ h. refl));
+  too_long = λ h. absurd (never_short 1048576 1048576 (length bytes) (length input) h short few);
+  never = λ e. omega (arith, e);
+}
 
 go_exactly : (bytes name : List ℕ) (opts : RunOpts) (input : List ℕ) → IsShort bytes → IsShort input → (o : Outcome) → JudgesGo bytes name opts input o → IsExactGo bytes input o.status
 go_exactly bytes name opts input short few _ (goes program e numbers is r safe) =
@@ -140,13 +162,8 @@ go_exactly bytes name opts input short few _ (not_gone _ (is_undone place duty u
   too_long = λ h. absurd (never_short 1048576 1048576 (length bytes) (length input) h short few);
   never = λ e. omega (arith, e);
 }
-go_exactly bytes name opts input short few _ (not_gone _ (is_not_built n)) = record {
-  runs = λ h. absurd (never_runs 3 (λ e. omega (arith, e)) (λ e. omega (arith, e)) (λ e. omega (arith, e)) h);
-  undone = ((λ h. absurd (omega (arith, h))), (λ h. absurd (n.none (program_of h.2.2.main) h.2.2.file.file)));
-  refused = ((λ h. (short, few, inl n)), (λ h. refl));
-  too_long = λ h. absurd (never_short 1048576 1048576 (length bytes) (length input) h short few);
-  never = λ e. omega (arith, e);
-}
+go_exactly bytes name opts input short few _ (not_gone _ (is_long_named place l)) = unread_go bytes input short few (inl (place, l))
+go_exactly bytes name opts input short few _ (not_gone _ (is_not_built n)) = unread_go bytes input short few (inr n)
 
 -- where more was given than may be, nothing was judged
 long_go : (bytes input : List ℕ) → (1048576 < length bytes) ⊎ (1048576 < length input) → IsExactGo bytes input 10

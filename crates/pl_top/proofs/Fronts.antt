@@ -46,7 +46,7 @@ both_begin : (f g : ℕ → Bool) (text : List ℕ) → ((b : ℕ) → f b ≡ t
 both_begin f g [] h ef eg = absurd cc
 both_begin f g (b ∷ bs) h ef eg = h b ef eg
 
-word_all : (x : List ℕ) → IsWord x → list_all is_word_byte x ≡ true
+pub word_all : (x : List ℕ) → IsWord x → list_all is_word_byte x ≡ true
 word_all [] h = absurd h
 word_all (b ∷ bs) h = and_from (is_word_byte b) (list_all is_word_byte bs) (or_left (is_letter b) (is_digit b) h.0) h.1
 

@@ -11,6 +11,7 @@ use Rattle.pl_lexer.specs.Proper.{IsName}
 use Rattle.c_syntax.specs.Tree.{Program}
 use Rattle.c_syntax.specs.Plain.{plain_program}
 use Rattle.c_syntax.specs.Fragment.{IsText}
+use Rattle.c_syntax.specs.Names.{ProgramNames}
 use Rattle.c_reader.specs.Reads.{IsFirstWrong}
 use Rattle.c_meaning.specs.declared.action.History.{History}
 use Rattle.c_history.specs.Text.{first_line, last_line, event_line, history_text}
@@ -30,6 +31,7 @@ use Rattle.pl_top.specs.declared.judge.Answer.{Answer}
 use Rattle.pl_top.specs.declared.judge.PlanError.{PlanError}
 use Rattle.pl_top.specs.declared.judge.PlanError.TheVariants.{Refused, Memory}
 use Rattle.pl_top.specs.declared.emit.Emitted.{Emitted}
+use Rattle.pl_top.proofs.NamesRead.{program_named}
 
 -- what is said of a text is said in a wider sense
 pub refused_wider : (e : PlanError) (P Q : Outcome → Type 0) → ((o : Outcome) → P o → Q o) → IfRefused e P → IfRefused e Q
@@ -46,7 +48,7 @@ emission_is bytes p e x h =
       program = record {
         accepted = x.accepted;
         is = is;
-        fragment = h.fragment;
+        text = record { fragment = h.fragment; names = subst (ProgramNames IsName) (sym is) (program_named bytes main x.accepted.file); text = refl };
         same = subst (SameRuns main) (sym is) (same_runs main x.sorted derives);
       };
       text = h.text;

@@ -55,7 +55,7 @@ pub begins_behind_run : (p : ℕ → Bool) (xs : List ℕ) → begins p (drop (p
 begins_behind_run p [] = refl
 begins_behind_run p (x ∷ xs) = begins_at p x xs (begins_behind_run p xs) (p x) refl
 
-word_byte_low : (b : ℕ) → is_word_byte b ≡ true → b < 128
+pub word_byte_low : (b : ℕ) → is_word_byte b ≡ true → b < 128
 word_byte_low b e = elim (or_cases (is_letter b) (is_digit b) e) [ inl h ↦ letter_low b h | inr h ↦ digit_low b h ]
 
 -- words are text

@@ -14,7 +14,7 @@ use Rattle.c_history.specs.declared.replaying.Replayed.TheVariants.{Follows, Dif
 use Rattle.pl_top.specs.declared.fetch.Fault.{Fault}
 use Rattle.pl_top.specs.declared.fetch.Fault.TheVariants as fault
 use Rattle.pl_top.specs.Telling.{Untouched, is_in, is_out, told_of, HasCauses}
-use Rattle.pl_top.specs.Judging.{Outcome, Refuses, is_undone, is_not_built, RefusesC, is_no_c, RefusesHistory, is_no_history, RefusesInput, is_no_input, status_of, replayed, JudgesCheck, checked, not_checked, JudgesEmit, emits, not_emitted, JudgesGo, goes, no_numbers, not_gone, JudgesRun, runs, run_no_numbers, not_run, JudgesReplay, replays, replay_no_numbers, no_history, not_replayed, OfFile, too_long, taken, OfInput, input_too_long, read, Judged}
+use Rattle.pl_top.specs.Judging.{Outcome, Refuses, is_long_named, is_undone, is_not_built, RefusesC, is_no_c, RefusesHistory, is_no_history, RefusesInput, is_no_input, status_of, replayed, JudgesCheck, checked, not_checked, JudgesEmit, emits, not_emitted, JudgesGo, goes, no_numbers, not_gone, JudgesRun, runs, run_no_numbers, not_run, JudgesReplay, replays, replay_no_numbers, no_history, not_replayed, OfFile, too_long, taken, OfInput, input_too_long, read, Judged}
 use Rattle.pl_top.specs.Calls.{CameTo, Answered, PartDone, DidCommand, IsExactFor, CommandKeeps}
 use Rattle.pl_top.proofs.Delivered.{came_part}
 use Rattle.pl_top.proofs.Exact.{answered_exactly}
@@ -37,6 +37,7 @@ told_10 : IsTold 10
 told_10 = ((λ e. omega (arith, e)), (λ e. omega (arith, e)))
 
 refuses_told : (bytes : List ℕ) (o : Outcome) → Refuses bytes o → IsTold o.status
+refuses_told bytes _ (is_long_named place l) = told_3
 refuses_told bytes _ (is_undone place duty u) = told_1
 refuses_told bytes _ (is_not_built n) = told_3
 

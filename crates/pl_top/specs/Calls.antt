@@ -19,7 +19,7 @@ use Rattle.pl_top.specs.declared.fetch.Fault.{Fault}
 use Rattle.pl_top.specs.Telling.{whole, Takes, Reads, Put, AllPut, AppendsPart, Untouched, is_in, HasCauses}
 use Rattle.pl_top.specs.Lines.{usage_line}
 use Rattle.pl_top.specs.Input.{input_of}
-use Rattle.pl_top.specs.Judging.{Outcome, says, IsAccepted, IsUndone, IsNotBuilt, IsEmitted, put_text, put_history, IsCOf, IsNoC, IsHistoryOf, IsNoHistory, Ran, status_of, most_source, most_text, Judged}
+use Rattle.pl_top.specs.Judging.{Outcome, says, IsAccepted, IsUndone, IsUnread, IsEmitted, put_text, put_history, IsCOf, IsNoC, IsHistoryOf, IsNoHistory, Ran, status_of, most_source, most_text, Judged}
 
 -- one of these outcomes came about: exactly its files were put, and exactly its text was written
 pub record CameTo (IsOutcome : Outcome → Type 0) (files files' : Option Files) (out out' : Option (List ℕ)) (status : ℕ) : Type 0 where
@@ -106,7 +106,7 @@ IsShortText bytes = length bytes ≤ 268435456
 pub record IsExact (bytes : List ℕ) (status : ℕ) : Type 0 where
   pub accepted : (status ≡ 0) ↔ (IsShort bytes × IsAccepted bytes)
   pub undone : (status ≡ 1) ↔ (IsShort bytes × ((place : Pos) × (duty : Duty) × IsUndone bytes place duty))
-  pub not_built : (status ≡ 3) ↔ (IsShort bytes × IsNotBuilt bytes)
+  pub unread : (status ≡ 3) ↔ (IsShort bytes × IsUnread bytes)
   pub too_long : (status ≡ 10) ↔ (1048576 < length bytes)
 
 -- the input's text is refused
@@ -117,7 +117,7 @@ HasNoNumbers input = (n : ℕ) × (input_of input ≡ Err n)
 pub record IsExactGo (bytes input : List ℕ) (status : ℕ) : Type 0 where
   pub runs : (status ≡ 0) ⊎ ((status ≡ 7) ⊎ (status ≡ 8)) → IsAccepted bytes
   pub undone : (status ≡ 1) ↔ (IsShort bytes × IsShort input × ((place : Pos) × (duty : Duty) × IsUndone bytes place duty))
-  pub refused : (status ≡ 3) ↔ (IsShort bytes × IsShort input × (IsNotBuilt bytes ⊎ (IsAccepted bytes × HasNoNumbers input)))
+  pub refused : (status ≡ 3) ↔ (IsShort bytes × IsShort input × (IsUnread bytes ⊎ (IsAccepted bytes × HasNoNumbers input)))
   pub too_long : (1048576 < length bytes) ⊎ (1048576 < length input) → status ≡ 10
   pub never : status ≢ 9
 

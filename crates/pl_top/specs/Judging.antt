@@ -1,5 +1,5 @@
 -- What a command does where nothing outside fails and memory is enough.
-use Rattle.std.specs.Prelude.{◌≡◌, ℕ, ◌+◌, ℤ, List, [], ◌∷◌, ◌++◌, Option, Some, None, Ok, Err, length}
+use Rattle.std.specs.Prelude.{◌≡◌, ◌⊎◌, ℕ, ◌+◌, ℤ, List, [], ◌∷◌, ◌++◌, Option, Some, None, Ok, Err, length}
 use Rattle.pl_base.specs.declared.pos.Pos.{Pos}
 use Rattle.pl_base.specs.Outside.{Files}
 use Rattle.pl_syntax.specs.Tree.{FunDecl, Program}
@@ -15,7 +15,7 @@ use Rattle.pl_words.specs.declared.command.RunOpts.{RunOpts}
 use Rattle.pl_lexer.specs.Proper.{IsName}
 use Rattle.c_syntax.specs.Tree as tree
 use Rattle.c_syntax.specs.Text.{program_text}
-use Rattle.c_syntax.specs.Fragment.{IsFragment, IsText}
+use Rattle.c_syntax.specs.Fragment.{IsText}
 use Rattle.c_reader.specs.Reads.{IsFirstWrong}
 use Rattle.c_meaning.specs.declared.action.Event.{Event}
 use Rattle.c_meaning.specs.declared.action.History.{History}
@@ -29,7 +29,8 @@ use Rattle.c_history.specs.Replays.{Tells}
 use Rattle.c_history.specs.declared.replaying.Replayed.{Replayed}
 use Rattle.c_history.specs.declared.replaying.Replayed.TheVariants as replay
 use Rattle.pl_top.specs.Telling.{whole, long, Takes, Reads, Put}
-use Rattle.pl_top.specs.Lines.{accepted, not_built, limit_file, limit_input, duty_line, c_line, history_line, input_line, outputs_text, end_line, follows_line, differs_line}
+use Rattle.pl_top.specs.Limits.{IsLongNamed, AreNamesShort}
+use Rattle.pl_top.specs.Lines.{accepted, not_built, long_name_line, limit_file, limit_input, duty_line, c_line, history_line, input_line, outputs_text, end_line, follows_line, differs_line}
 use Rattle.pl_top.specs.Input.{input_of}
 
 -- the status of a command, the files that it puts, in order, and the text that it then prints
@@ -44,10 +45,11 @@ says status text = record { status = status; puts = []; text = text }
 
 -- ---- files
 
--- the bytes are a file of the small grammar, with this function and no other
+-- the bytes are a file of the small grammar, with this function and no other, and no name is too long
 pub record IsFileOf (bytes : List ℕ) (main : FunDecl) : Type 0 where
   pub file : IsFile bytes (program_of main)
   pub only : (program : Program) → IsFile bytes program → program ≡ program_of main
+  pub short : AreNamesShort bytes
 
 -- no duty of the file is left undone, and then the program is good: no run of it faults or races
 pub record IsAccepted (bytes : List ℕ) : Type 0 where
@@ -62,22 +64,29 @@ pub record IsUndone (bytes : List ℕ) (place : Pos) (duty : Duty) : Type 0 wher
   pub file : IsFileOf bytes main
   pub undone : Undone main place duty
 
--- the bytes are no file of the small grammar
+-- no name is too long, and the bytes are no file of the small grammar
 pub record IsNotBuilt (bytes : List ℕ) : Type 0 where
+  pub short : AreNamesShort bytes
   pub none : (program : Program) → IsFile bytes program → ⊥
 
--- a file that isn't accepted is refused: its first duty that is left undone is named, or that it isn't built
+-- a name is too long, or the bytes are no file of the small grammar
+abbrev pub IsUnread : List ℕ → Type 0
+IsUnread bytes = ((place : Pos) × IsLongNamed bytes place) ⊎ IsNotBuilt bytes
+
+-- A file that isn't accepted is refused. Its first name that is too long is named, whatever else it holds; or that it isn't
+-- built; or its first duty that is left undone
 pub data Refuses (bytes : List ℕ) : Outcome → Type 0 where
+  is_long_named : (place : Pos) → IsLongNamed bytes place → Refuses bytes (says 3 (long_name_line place))
   is_undone : (place : Pos) (duty : Duty) → IsUndone bytes place duty → Refuses bytes (says 1 (duty_line place duty))
   is_not_built : IsNotBuilt bytes → Refuses bytes (says 3 not_built)
 
 -- ---- the C of a file
 
--- the file is accepted, and its C program has the same runs
+-- the file is accepted, and its C program has the same runs, and a text that is read
 pub record IsEmitted (bytes : List ℕ) (program : tree.Program) : Type 0 where
   pub accepted : IsAccepted bytes
   pub is : program ≡ emitted (program_of accepted.main)
-  pub fragment : IsFragment program
+  pub text : IsText IsName (program_text program) program
   pub same : SameRuns accepted.main program
 
 abbrev pub put : List ℕ → List ℕ → Put

@@ -6,6 +6,7 @@ pub mod Reading
 pub mod Judging
 pub mod Calls
 pub mod Leads
+pub mod Limits
 pub mod Forms
 pub mod Scopes
 pub mod Checks

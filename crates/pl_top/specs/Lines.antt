@@ -50,6 +50,10 @@ duty_text (Leftover text) = codes "leftover " ++ text
 abbrev pub duty_line : Pos → Duty → List ℕ
 duty_line p duty = decimal p.line ++ codes ":" ++ decimal p.col ++ codes ": " ++ duty_text duty ++ codes "\n"
 
+-- a name that is too long, at its line and column
+abbrev pub long_name_line : Pos → List ℕ
+long_name_line p = decimal p.line ++ codes ":" ++ decimal p.col ++ codes ": long name\n"
+
 -- a text of C that is refused, at its first wrong byte
 abbrev pub c_line : ℕ → List ℕ
 c_line n = codes "C byte " ++ decimal n ++ codes "\n"

@@ -1,14 +1,15 @@
 // What a file is found to be.
-ghost use Rattle.std.specs.Prelude.{◌≡◌, ◌≤◌, ◌∷◌, [], length, IfOk, IfErr};
+ghost use Rattle.std.specs.Prelude.{◌≡◌, ◌≤◌, ◌∷◌, [], Ok, length, IfOk, IfErr};
 ghost use Rattle.pl_syntax.specs.Tree as t;
 ghost use Rattle.pl_syntax.specs.Plain.{plain_program};
 ghost use Rattle.pl_syntax.specs.Sorts.{IsMain};
 ghost use Rattle.pl_top.specs.Lines.{not_built};
+ghost use Rattle.pl_top.specs.Reading.{IsReadAs};
 ghost use Rattle.pl_top.specs.Judging.{says, Refuses};
 ghost use Rattle.pl_top.specs.Checks.{said, IfRefused, Finds, AcceptedAs};
 
-use crate::lines::duty_line;
-use crate::reading::read;
+use crate::lines::{duty_line, long_name_line};
+use crate::reading::{ReadError, read};
 use pl_base::Memory;
 use pl_syntax::Typed;
 use pl_walk::{WalkError, walk_function};
@@ -62,6 +63,23 @@ fn not_built(alloc: Global) -> Result<Answer, Memory>
     Ok(Answer { status: 3, text })
 }
 
+// The program of a file's bytes.
+fn typed_of(alloc: Global, bytes: &[u8]) -> Result<Typed, PlanError>
+    requires { length bytes.now ≤ 1048576 }
+    ensures is { IfOk result (λ typed. IsReadAs bytes.now (Ok typed)) }
+    ensures refused { IfErr result (λ e. IfRefused e (Refuses bytes.now)) }
+{
+    match read(alloc, bytes) {
+        Ok(typed) => Ok(typed),
+        Err(ReadError::LongName(place)) => {
+            let text = long_name_line(alloc, place)?;
+            Err(PlanError::Refused(Answer { status: 3, text }))
+        }
+        Err(ReadError::NotBuilt) => Err(PlanError::Refused(not_built(alloc)?)),
+        Err(ReadError::Memory) => Err(PlanError::Memory),
+    }
+}
+
 /// The program of a file's bytes, if no duty of it is left undone.
 ///
 /// # Errors
@@ -72,9 +90,7 @@ pub fn check_bytes(alloc: Global, bytes: &[u8]) -> Result<Typed, PlanError>
     ensures accepted { IfOk result (λ typed. AcceptedAs bytes.now (plain_program typed)) }
     ensures refused { IfErr result (λ e. IfRefused e (Refuses bytes.now)) }
 {
-    let Some(typed) = read(alloc, bytes)? else {
-        return Err(PlanError::Refused(not_built(alloc)?));
-    };
+    let typed = typed_of(alloc, bytes)?;
     match first_undone(alloc, &typed)? {
         None => Ok(typed),
         Some(answer) => Err(PlanError::Refused(answer)),

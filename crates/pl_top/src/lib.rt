@@ -9,6 +9,7 @@ mod input;
 mod judge;
 mod laws;
 mod lexing;
+mod limits;
 mod lines;
 mod parsing;
 mod plan;
@@ -18,7 +19,7 @@ mod sorting;
 mod top;
 mod words;
 
-pub use laws::stored_laws;
+pub use laws::{emitted_laws, stored_laws};
 pub use top::{check_command, pulse_main, run_command};
 
 #[cfg(test)]

@@ -71,6 +71,14 @@ pub fn duty_line(alloc: Global, pos: Pos, duty: &Duty) -> Result<Vec<u8>, Memory
     Ok(line)
 }
 
+/// `LINE:COLUMN: long name`
+pub fn long_name_line(alloc: Global, pos: Pos) -> Result<Vec<u8>, Memory>
+    ensures { IfOk result (λ line. line.items ≡ text.long_name_line pos) }
+{
+    let (at, column) = (pos.line, pos.col);
+    Ok(format!(in alloc; "{at}:{column}: long name\n")?.into_bytes())
+}
+
 /// `C byte N`
 pub fn c_line(alloc: Global, byte: u32) -> Result<Vec<u8>, Memory>
     ensures { IfOk result (λ line. line.items ≡ text.c_line byte) }

@@ -1,39 +1,67 @@
 // The program of a file's bytes.
-ghost use Rattle.std.specs.Prelude.{◌≤◌, length, IfOk, MatchOption};
-ghost use Rattle.pl_syntax.specs.Tree as t;
-ghost use Rattle.pl_syntax.specs.Plain.{plain_program};
-ghost use Rattle.pl_top.specs.Reading.{IsReadAs};
-ghost use Rattle.pl_top.specs.Forms.{IsParsed, NotParsed};
+ghost use Rattle.std.specs.Prelude.{◌≤◌, length};
+ghost use Rattle.pl_top.specs.Reading.{IsParsedAs, IsReadAs};
 
 use crate::lexing::lex;
+use crate::limits::first_long;
 use crate::parsing::{Stop, program};
 use crate::sorting::seal;
-use pl_base::Memory;
+use pl_base::{Memory, Pos};
 use pl_syntax::{Program, Typed};
 use std::alloc::Global;
 
-/// The program of a file, before the sort rules; none exactly where its bytes are of no program.
-fn read_program(alloc: Global, bytes: &[u8]) -> Result<Option<Program>, Memory>
-    requires { length bytes.now ≤ 1048576 }
-    ensures { IfOk result (λ r. MatchOption r (NotParsed bytes.now) (λ p. IsParsed bytes.now (plain_program p))) }
-{
-    let Some(tokens) = lex(alloc, bytes)? else {
-        return Ok(None);
-    };
-    match program(alloc, tokens.as_slice()) {
-        Ok(program) => Ok(Some(program)),
-        Err(Stop::Unfit) => Ok(None),
-        Err(Stop::Memory) => Err(Memory),
+/// Why a file isn't read.
+#[derive(Debug, Drop)]
+pub enum ReadError {
+    /// Its first name that is too long stands there.
+    LongName(Pos),
+    /// No name is too long, and the bytes are no file of the small grammar.
+    NotBuilt,
+    Memory,
+}
+
+impl From<Memory> for ReadError {
+    ghost use Rattle.std.specs.Prelude.{◌≡◌};
+    ghost use Rattle.pl_top.specs.declared.reading.ReadError.TheVariants.{Memory};
+
+    ghost from_gives = { λ _ e. e ≡ Memory };
+
+    fn from(_: Memory) -> ReadError {
+        ReadError::Memory
     }
 }
 
-/// The typed program of a file of at most 1,048,576 bytes; none exactly where its bytes are no file of the small grammar.
-pub fn read(alloc: Global, bytes: &[u8]) -> Result<Option<Typed>, Memory>
+/// The program of a file, before the sort rules.
+fn read_program(alloc: Global, bytes: &[u8]) -> Result<Program, ReadError>
     requires { length bytes.now ≤ 1048576 }
-    ensures { IfOk result (IsReadAs bytes.now) }
+    ensures { IsParsedAs bytes.now result }
 {
-    match read_program(alloc, bytes)? {
-        Some(program) => seal(alloc, program),
-        None => Ok(None),
+    let Some(tokens) = lex(alloc, bytes)? else {
+        return Err(ReadError::NotBuilt);
+    };
+    if let Some(place) = first_long(tokens.as_slice()) {
+        return Err(ReadError::LongName(place));
+    }
+    match program(alloc, tokens.as_slice()) {
+        Ok(program) => Ok(program),
+        Err(Stop::Unfit) => Err(ReadError::NotBuilt),
+        Err(Stop::Memory) => Err(ReadError::Memory),
+    }
+}
+
+/// The typed program of a file of at most 1,048,576 bytes.
+///
+/// # Errors
+/// - `LongName` exactly where a name is too long, whatever else the file holds: its tokens are looked at before its forms.
+/// - `NotBuilt` exactly where none is, and the bytes are no file of the small grammar.
+/// - `Memory` only for want of memory.
+pub fn read(alloc: Global, bytes: &[u8]) -> Result<Typed, ReadError>
+    requires { length bytes.now ≤ 1048576 }
+    ensures { IsReadAs bytes.now result }
+{
+    let program = read_program(alloc, bytes)?;
+    match seal(alloc, program)? {
+        Some(typed) => Ok(typed),
+        None => Err(ReadError::NotBuilt),
     }
 }

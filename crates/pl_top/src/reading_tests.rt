@@ -1,4 +1,4 @@
-use crate::reading::read;
+use crate::reading::{ReadError, read};
 use pl_base::{Memory, Pos};
 use pl_syntax::{Decl, Expr, Stmt};
 use std::alloc::Global;
@@ -12,7 +12,11 @@ fn is_file(alloc: Global, bytes: &[u8]) -> Result<bool, Memory> {
     if bytes.len() > 1_048_576 {
         return Ok(false);
     }
-    Ok(read(alloc, bytes)?.is_some())
+    match read(alloc, bytes) {
+        Ok(_) => Ok(true),
+        Err(ReadError::Memory) => Err(Memory),
+        Err(ReadError::LongName(_) | ReadError::NotBuilt) => Ok(false),
+    }
 }
 
 fn place_of(stmt: &Stmt) -> Option<Pos> {
@@ -41,6 +45,8 @@ fn files_of_the_small_grammar(rt: HostRuntime) -> Result<(), Fail> {
         b"fn main() { let main = alloc(0007); let r = alloc(- 0); free(main); free(r); }".as_slice(),
         b"fn main() { let a = alloc(-9223372036854775808); }".as_slice(),
         b"fn main() { let a = alloc(9223372036854775807); let _1 = !a; print(_1); }".as_slice(),
+        b"fn main() { let abcdefghijklmnopqrstuvwxyz0123456789ABCD = alloc(1); }".as_slice(),
+        b"fn main() { let _________________________ = alloc(1); }".as_slice(),
     ] {
         assert!(rt; is_file(alloc, bytes)?, "{bytes:?}");
     }
@@ -72,7 +78,9 @@ fn other_texts(rt: HostRuntime) -> Result<(), Fail> {
 
 #[test]
 fn places(rt: HostRuntime) -> Result<(), Fail> {
-    let typed = read(rt.alloc(), FIRST)?.ok_or("not read")?;
+    let Ok(typed) = read(rt.alloc(), FIRST) else {
+        return Err("not read".into());
+    };
     assert_eq!(rt; typed.program().decls.as_slice().len(), 1);
     for decl in typed.program().decls.as_slice() {
         let Decl::Fun(main) = decl else {
@@ -89,6 +97,28 @@ fn places(rt: HostRuntime) -> Result<(), Fail> {
             assert_eq!(rt; pos.col, 3);
         }
         assert_eq!(rt; literal_of(&list[0]), Some(5));
+    }
+    Ok(())
+}
+
+#[test]
+fn names_that_are_too_long(rt: HostRuntime) -> Result<(), Fail> {
+    let alloc = rt.alloc();
+    for (bytes, col) in [
+        (
+            b"fn main() { let abcdefghijklmnopqrstuvwxyz0123456789ABCDE = alloc(1); }".as_slice(),
+            17,
+        ),
+        (b"fn fn __________________________() { }".as_slice(), 7),
+        (
+            b"fn } a ___________________________ __________________________".as_slice(),
+            8,
+        ),
+    ] {
+        let Err(ReadError::LongName(place)) = read(alloc, bytes) else {
+            return Err("read".into());
+        };
+        assert_eq!(rt; (place.line, place.col), (1, col));
     }
     Ok(())
 }
