@@ -4,7 +4,7 @@ use Rattle.std.specs.Prelude.{Option, Some, None, Result, Ok, Err, IfOk, OnErr}
 use Rattle.std.specs.Io.KnownBytes.{Appends}
 use Rattle.std.proofs.lemmas.Bool.{both_ways, false≢true}
 use Rattle.std.proofs.lemmas.Result.{IfOk-weaker, on_err_weaker}
-use Rattle.pl_base.specs.Outside.{Files, Puts, KeepsOthers}
+use Rattle.pl_base.specs.Outside.{Files, Puts, KeepsOthers, Counts}
 use Rattle.pl_words.specs.declared.command.Command.TheVariants as c
 use Rattle.pl_words.specs.declared.command.RunOpts.{RunOpts}
 use Rattle.c_syntax.specs.Tree.{Program}
@@ -16,7 +16,7 @@ use Rattle.c_runner.specs.declared.run_end.RunEnd.TheVariants as end
 use Rattle.c_runner.specs.Runs.{IsRun}
 use Rattle.pl_top.specs.declared.fetch.Fault.{Fault}
 use Rattle.pl_top.specs.declared.fetch.Fault.TheVariants as fault
-use Rattle.pl_top.specs.Telling.{Given, whole, long, Takes, Reads, Put, AllPut, AppendsPart, is_in}
+use Rattle.pl_top.specs.Telling.{Given, whole, long, Takes, Reads, Put, AllPut, AppendsPart, is_in, is_out}
 use Rattle.pl_top.specs.Lines.{accepted, limit_file, limit_input, outputs_text, end_line}
 use Rattle.pl_top.specs.Input.{input_of}
 use Rattle.pl_top.specs.Judging.{Outcome, says, IsEmitted, put_text, IsCOf, IsReadable, Ran, ran, IsSafeEnd, status_of, put_history, behind, JudgesCheck, checked, JudgesEmit, emits, JudgesGo, goes, JudgesRun, runs, JudgesReplay, most_source, most_text, OfFile, too_long, taken, OfInput, input_too_long, read, Judged}
@@ -107,6 +107,23 @@ same_in e f is h = rw is (by_fault f h)
     by_fault fault.In k = k
     by_fault fault.Out k = k
     by_fault fault.Memory k = k
+
+-- a fault that was handed on counts as it did before, behind calls that didn't fail
+pub counted_in : (before mid now : ℕ) (r : Result ℕ Fault) (e f : Fault) → r ≡ Err e → e ≡ f → mid ≡ before → Counts (is_in {T = Unit {0}} (Err f)) mid now → Counts (is_in r) before now
+counted_in before mid now r e f is same kept counts = subst (λ z. Counts (is_in z) before now) (sym is) (subst (λ x. Counts (is_in {T = ℕ} (Err x)) before now) (sym same) (subst (λ m. Counts (is_in {T = ℕ} (Err f)) m now) kept (by_fault mid now f counts)))
+  where
+    by_fault : (m n : ℕ) (x : Fault) → Counts (is_in {T = Unit {0}} (Err x)) m n → Counts (is_in {T = ℕ} (Err x)) m n
+    by_fault m n fault.In k = k
+    by_fault m n fault.Out k = k
+    by_fault m n fault.Memory k = k
+
+pub counted_out : (before mid now : ℕ) (r : Result ℕ Fault) (e f : Fault) → r ≡ Err e → e ≡ f → mid ≡ before → Counts (is_out {T = Unit {0}} (Err f)) mid now → Counts (is_out r) before now
+counted_out before mid now r e f is same kept counts = subst (λ z. Counts (is_out z) before now) (sym is) (subst (λ x. Counts (is_out {T = ℕ} (Err x)) before now) (sym same) (subst (λ m. Counts (is_out {T = ℕ} (Err f)) m now) kept (by_fault mid now f counts)))
+  where
+    by_fault : (m n : ℕ) (x : Fault) → Counts (is_out {T = Unit {0}} (Err x)) m n → Counts (is_out {T = ℕ} (Err x)) m n
+    by_fault m n fault.In k = k
+    by_fault m n fault.Out k = k
+    by_fault m n fault.Memory k = k
 
 -- ---- runs
 

@@ -8,7 +8,7 @@ use Rattle.pl_top.specs.Judging.{says, put_text, Refuses, not_emitted, too_long,
 use Rattle.pl_top.specs.Calls.{none, emit_text}
 use Rattle.pl_top.specs.Goes.{IsProgramOf}
 use Rattle.pl_top.proofs.Delivered.{puts_from, others_at}
-use Rattle.pl_top.proofs.Promises.{did_nothing, did_say, did_not_put, did_behind, did_from, emit_did, text_at, same_in}
+use Rattle.pl_top.proofs.Promises.{counted_in, counted_out, did_nothing, did_say, did_not_put, did_behind, did_from, emit_did, text_at, same_in}
 use Rattle.pl_top.proofs.commands.emit_file.Goals as goal
 
 pub returns-in_err-file-clause-does : goal.returns-in_err-file-clause-does
@@ -55,3 +55,15 @@ returns-in-Err-Refused-clause-does g c =
 pub returns-clause-does : goal.returns-clause-does
 returns-clause-does g c =
     did_nothing _ _ _ _ _ _ (Err Memory) Memory refl none c.in_ok-file.ensures.same.0 c.in_ok-file.ensures.same.2
+
+pub returns-in_err-put_file-in-Ok-clause-in_faults : goal.returns-in_err-put_file-in-Ok-clause-in_faults
+returns-in_err-put_file-in-Ok-clause-in_faults g c =
+    let stop = c.from_residual-in_err-put_file-in-Ok in
+    let p = err_from_is_err_and stop.result stop.ensures.1 in
+    counted_in _ _ _ stop.result p.0 _ p.1 p.2 (c.in_ok-file.ensures.in_faults.kept refl) c.in_err-put_file-in-Ok.ensures.in_faults
+
+pub returns-in_err-put_file-in-Ok-clause-out_faults : goal.returns-in_err-put_file-in-Ok-clause-out_faults
+returns-in_err-put_file-in-Ok-clause-out_faults g c =
+    let stop = c.from_residual-in_err-put_file-in-Ok in
+    let p = err_from_is_err_and stop.result stop.ensures.1 in
+    counted_out _ _ _ stop.result p.0 _ p.1 p.2 (c.in_ok-file.ensures.out_faults.kept refl) c.in_err-put_file-in-Ok.ensures.out_faults
