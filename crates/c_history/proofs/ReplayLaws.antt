@@ -1,16 +1,16 @@
 -- Replays, one event more at a time.
-use Rattle.std.proofs.Common.{◌≡◌, ◌∙◌, sym, ap, subst, refl, ℕ, zero, suc, ℤ, ◌+◌, ◌≤◌, ◌<◌, arith, add-one, Bool, true, false, List, [], ◌∷◌, ◌++◌, Option, Some, None, Result, Ok, length, take, slice_get, slice_index_or, IsTrue, ◌↔◌, nat_lt}
+use Rattle.std.proofs.Common.{◌≡◌, ◌∙◌, sym, ap, subst, refl, ℕ, zero, suc, ℤ, ◌+◌, ◌≤◌, ◌<◌, arith, add-one, Bool, true, false, List, [], ◌∷◌, ◌++◌, Option, Some, None, Result, Ok, length, take, slice_get, slice_index_or, IsTrue, IfSome, IfNone, OnSome, ◌↔◌, nat_lt}
 use Rattle.std.proofs.lemmas.Bool.{ltb-true, ltb-false}
 use Rattle.pl_resource.specs.declared.value.Fault.{Fault}
 use Rattle.c_syntax.specs.Tree.{Program}
 use Rattle.c_meaning.specs.declared.action.Event.{Event}
 use Rattle.c_meaning.specs.declared.action.Action.{Action}
 use Rattle.c_meaning.specs.Resolve.{functions_of}
-use Rattle.c_meaning.specs.Events.{State, event_of}
+use Rattle.c_meaning.specs.Events.{State, event_of, is_enabled}
 use Rattle.c_meaning.specs.Steps.{Step, Runs, Replay, start_of}
 use Rattle.c_history.specs.declared.replaying.Replayed.{Replayed}
 use Rattle.c_history.specs.declared.replaying.Replayed.TheVariants as replayed
-use Rattle.c_history.specs.Replays.{Expects, DiffersAt, Tells, IsNext}
+use Rattle.c_history.specs.Replays.{Expects, DiffersAt, Tells}
 
 -- one event more
 pub runs_more : (p : Program) (before : State) (es : List Event) (mid : State) (e : Event) (after : State) → Runs p before es mid → Step p mid e.tid e after → Runs p before (es ++ e ∷ []) after
@@ -99,9 +99,23 @@ reached_more p input events k before after e r at s m = record {
   threads = omega (arith, r.threads, m.threads);
 }
 
+-- the thread's next event and the state after it; none where the thread isn't enabled
+abbrev pub IsNext : Program → State → ℕ → Option Event → State → Type 0
+IsNext p before t (Some event) after = Step p before t event after
+IsNext p before t None after = is_enabled (functions_of p) before t ≡ false
+
+pub is_next : (p : Program) (before after : State) (t : ℕ) (expected : Option Event) → IfSome expected (λ event. Step p before t event after) → IfNone expected (is_enabled (functions_of p) before t ≡ false) → IsNext p before t expected after
+is_next p before after t None some none = none
+is_next p before after t (Some event) some none = some
+
+-- each of an event's three bounds, where there is an event
+pub one_more : (before after : State) (expected : Option Event) (event : Event) → expected ≡ Some event → OnSome expected (length after.world.blocks ≤ suc (length before.world.blocks)) → OnSome expected (length after.world.locks ≤ suc (length before.world.locks)) → OnSome expected (length after.threads ≤ suc (length before.threads)) → OneMore before after
+one_more before after None event is blocks locks threads = absurd cc
+one_more before after (Some e) event is blocks locks threads = record { blocks = blocks; locks = locks; threads = threads }
+
 -- what a thread does next, if anything
 pub expects : (p : Program) (before after : State) (t : ℕ) (expected : Option Event) → IsNext p before t expected after → Expects p before t expected
-expects p before after t None n = n.0
+expects p before after t None n = n
 expects p before after t (Some d) n = (after, n)
 
 not_false : {A : Type 0} → false ≡ true → A
@@ -109,7 +123,7 @@ not_false e = absurd cc
 
 -- where a thread does another event, or none, this one is no step of it
 pub no_step : (p : Program) (before after : State) (e : Event) (expected : Option Event) → IsNext p before e.tid expected after → (expected ≡ Some e → ⊥) → (other : State) → Step p before e.tid e other → ⊥
-no_step p before after e None n apart other s = not_false (sym n.0 ∙ s.enabled)
+no_step p before after e None n apart other s = not_false (sym n ∙ s.enabled)
 no_step p before after e (Some d) n apart other s = apart (ap (λ (z : Event). Some z) (step_once p before e.tid d e after other n s).0)
 
 pub differs : (p : Program) (input : List ℤ) (events : List Event) (k : ℕ) (before after : State) (e : Event) (expected : Option Event) → Reached p input events k before → slice_get events k ≡ Some e → IsNext p before e.tid expected after → (expected ≡ Some e → ⊥) → DiffersAt p input events k expected e
@@ -195,10 +209,11 @@ module _ (p : Program) (input : List ℤ) (xs events : List Event) (k : ℕ) (be
   exact_there no_event answer tells = one_answer p input events (replayed.Differs k expected (slice_index_or xs k d)) answer (differs_there no_event) tells
 
   -- the event at one place is the thread's next
-  pub reached_there : is_event ≡ true → OneMore before after → Reached p input xs (k + 1) after
-  reached_there does m =
+  pub reached_there : is_event ≡ true → OnSome expected (length after.world.blocks ≤ suc (length before.world.blocks)) → OnSome expected (length after.world.locks ≤ suc (length before.world.locks)) → OnSome expected (length after.threads ≤ suc (length before.threads)) → Reached p input xs (k + 1) after
+  reached_there does blocks locks threads =
       reached_more p input xs k before after (slice_index_or xs k d) r (at_read xs k d lt)
-      (subst (λ o. IsNext p before (slice_index_or xs k d).tid o after) (told.0 does) n) m
+      (subst (λ o. IsNext p before (slice_index_or xs k d).tid o after) (told.0 does) n)
+      (one_more before after expected (slice_index_or xs k d) (told.0 does) blocks locks threads)
 
 pub one_state : (p : Program) (input : List ℤ) (events : List Event) (one two : State) → Replay p input events one → Replay p input events two → one ≡ two
 one_state p input events one two r s = runs_once p (start_of p input) events one two r s

@@ -25,8 +25,3 @@ pub record DiffersAt (p : Program) (input : List ℤ) (events : List Event) (k :
 abbrev pub Tells : Program → List ℤ → List Event → Replayed → Type 0
 Tells p input events replayed.Follows = (state : State) × Replay p input events state
 Tells p input events (replayed.Differs k expected found) = DiffersAt p input events k expected found
-
--- the thread's next event and the state after it; none, and the state stays, where the thread isn't enabled
-abbrev pub IsNext : Program → State → ℕ → Option Event → State → Type 0
-IsNext p before t (Some event) after = Step p before t event after
-IsNext p before t None after = (is_enabled (functions_of p) before t ≡ false) × (after ≡ before)

@@ -12,6 +12,7 @@ pub mod Touched
 pub mod Strides
 pub mod Spares
 pub mod StateEvents
+pub mod Waits
 pub mod Loading
 pub mod Counts
 pub mod Crossing

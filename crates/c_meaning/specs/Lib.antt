@@ -12,6 +12,7 @@ pub mod Touches
 pub mod Touching
 pub mod Events
 pub mod Steps
+pub mod Waits
 pub mod Machine
 pub mod States
 pub mod Loads

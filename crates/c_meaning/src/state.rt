@@ -1,8 +1,10 @@
-ghost use Rattle.std.specs.Prelude.{◌≡◌, ◌≤◌, ◌<◌, ◌-◌, ◌^◌, ◌++◌, ◌∷◌, [], IsTrue, IfOk, IfSome, IfNone, OnOk, OnErr, Ok, Some, None, length, map, true, slice_get, suc, vec_len, vec_capacity};
+ghost use Rattle.std.specs.Prelude.{◌≡◌, ◌≤◌, ◌<◌, ◌-◌, ◌^◌, ◌++◌, ◌∷◌, [], IsTrue, IfOk, IfSome, IfNone, OnSome, OnOk, OnErr, Ok, not, ◌&&◌, false, Some, None, length, map, true, slice_get, suc, vec_len, vec_capacity};
 ghost use Rattle.c_syntax.specs.Plain.{plain_program};
 ghost use Rattle.c_meaning.specs.Steps.{Step, start_of};
 ghost use Rattle.c_meaning.specs.Acts.{shared};
-ghost use Rattle.c_meaning.specs.Events.{begun, blank, function_numbered, callee_at, event_of, next_of, next_by, is_ended, atomic_at, event_of_frame, is_enabled, lock_ready, child_ready};
+ghost use Rattle.c_meaning.specs.Events.{begun, blank, function_numbered, callee_at, event_of, next_of, next_by, is_ended, atomic_at, event_of_frame, is_enabled, lock_ready, child_ready, own_of};
+ghost use Rattle.c_meaning.specs.Resolve.{functions_of};
+ghost use Rattle.c_meaning.specs.Waits.{acts, waits_for, waits_at};
 ghost use Rattle.std.specs.Prelude.{ℕ, List};
 ghost use Rattle.c_meaning.specs.Tree as tree;
 ghost use Rattle.c_meaning.specs.Blocks.{IsTable};
@@ -16,7 +18,7 @@ ghost use Rattle.pl_resource.specs.Heap.{IsFields};
 ghost use Rattle.c_meaning.specs.declared.code.Block.{Block};
 ghost use Rattle.c_meaning.specs.States.{shown, runs, IsFor, IsLast, frames_at, HasRoom, FramesRoom, ThreadAdded, ThreadsFit, thread_shown};
 
-use crate::act::{count_of, number};
+use crate::act::{count_of, lock_of, number};
 use crate::action::{Action, Event, Next};
 use crate::code::{Block, Op};
 use crate::load::load;
@@ -161,8 +163,51 @@ impl CState {
         ensures locks { length (shown self.new).world.locks ≤ suc (length (shown self.old).world.locks) }
         ensures threads { length (shown self.new).threads ≤ suc (length (shown self.old).threads) }
     {
+        let Some(event) = self.go_on(tid) else {
+            unreachable!();
+        };
+        event
+    }
+
+    /// The next event of a thread, if it may do one. None comes where there is no such thread, and where it has ended, waits or
+    /// stands before a fault; of a state behind None no more is known than its program. `Memory` comes only for want of memory.
+    pub fn attempt(&mut self, program: &CProgram, tid: u32) -> Result<Option<Event>, Memory>
+        requires program { IsFor (plain_program program.now) self.old }
+        requires blocks { length (shown self.old).world.blocks < 2 ^ 32 - 1 }
+        requires locks { length (shown self.old).world.locks < 2 ^ 32 - 1 }
+        requires threads { length (shown self.old).threads < 2 ^ 32 - 1 }
+        ensures event { IfOk result (λ r. IfSome r (λ event. Step (plain_program program.now) (shown self.old) tid event (shown self.new))) }
+        ensures none { IfOk result (λ r. IfNone r (is_enabled (functions_of (plain_program program.now)) (shown self.old) tid ≡ false)) }
+        ensures program { OnOk result (IsFor (plain_program program.now) self.new) }
+        ensures blocks { IfOk result (λ r. OnSome r (length (shown self.new).world.blocks ≤ suc (length (shown self.old).world.blocks))) }
+        ensures locks { IfOk result (λ r. OnSome r (length (shown self.new).world.locks ≤ suc (length (shown self.old).world.locks))) }
+        ensures threads { IfOk result (λ r. OnSome r (length (shown self.new).threads ≤ suc (length (shown self.old).threads))) }
+    {
+        if tid >= self.threads() || self.waits(tid) {
+            return Ok(None);
+        }
+        self.make_room(program, tid)?;
+        Ok(self.go_on(tid))
+    }
+
+    // The next event of a thread that waits for nothing. None comes before a fault, and then the threads are gone.
+    fn go_on(&mut self, tid: u32) -> Option<Event>
+        requires thread { tid < length (shown self.old).threads }
+        requires room { self.old.ready ≡ Some tid }
+        requires blocks { length (shown self.old).world.blocks < 2 ^ 32 - 1 }
+        requires locks { length (shown self.old).world.locks < 2 ^ 32 - 1 }
+        requires threads { length (shown self.old).threads < 2 ^ 32 - 1 }
+        ensures thread { IfSome result (λ event. event.tid ≡ tid) }
+        ensures does { IfSome result (λ event. event_of (runs self.old) (shown self.old) tid ≡ Some (Ok (event.action, shown self.new))) }
+        ensures none { IfNone result (is_enabled (runs self.old) (shown self.old) tid ≡ false) }
+        ensures runs { runs self.new ≡ runs self.old }
+        ensures used { self.new.ready ≡ None }
+        ensures blocks { OnSome result (length (shown self.new).world.blocks ≤ suc (length (shown self.old).world.blocks)) }
+        ensures locks { OnSome result (length (shown self.new).world.locks ≤ suc (length (shown self.old).world.locks)) }
+        ensures threads { OnSome result (length (shown self.new).threads ≤ suc (length (shown self.old).threads)) }
+    {
         self.ready = None;
-        let Ok(action) = advance_thread(
+        match advance_thread(
             self.alloc,
             self.blocks.as_slice(),
             self.functions.as_slice(),
@@ -172,10 +217,48 @@ impl CState {
             &mut self.world,
             &mut self.spare,
             &mut self.frames,
-        ) else {
-            unreachable!();
-        };
-        Event { tid, action }
+        ) {
+            Ok(action) => Some(Event { tid, action }),
+            Err(_) => {
+                self.threads.clear();
+                None
+            }
+        }
+    }
+
+    // Whether a thread has ended, or waits for a lock or another thread.
+    fn waits(&self, tid: u32) -> bool
+        requires { tid < length (shown self.now).threads }
+        ensures { is_enabled (runs self.now) (shown self.now) tid ≡ (not result && acts (next_of (runs self.now) (shown self.now) tid)) }
+    {
+        match last_frame(frames_of(self.threads.as_slice(), tid as usize)) {
+            None => true,
+            Some(frame) => self.frame_waits(frame),
+        }
+    }
+
+    fn frame_waits(&self, frame: &Frame) -> bool
+        ensures { result ≡ waits_at (frame_shown self.now.code frame.now).left (own_of (frame_shown self.now.code frame.now)) (shown self.now) }
+    {
+        match current(self.blocks.as_slice(), frame.spots.as_slice()) {
+            Some((_, Op::Do(basic))) => {
+                self.waits_for(basic, frame.env.as_slice(), frame.child)
+            }
+            _ => false,
+        }
+    }
+
+    fn waits_for(&self, basic: &Basic, env: &[Value], child: Option<u32>) -> bool
+        ensures { result ≡ waits_for (plain_basic basic.now) (record { env = env.now; child = child }) (shown self.now) }
+    {
+        match basic {
+            Basic::Acquire(x) => match lock_of(env, *x) {
+                Ok(lock) => !self.lock_ready(Some(lock)),
+                Err(_) => false,
+            },
+            Basic::Join => !self.child_ready(child),
+            _ => false,
+        }
     }
 
     /// What a thread stands before: an action with what this touches, a fault, or its end.

@@ -1,7 +1,7 @@
 use Rattle.std.proofs.Common.{sym, ap, ◌∙◌, subst, slice_get}
 use Rattle.c_meaning.specs.Machine.{functions_shown}
 use Rattle.c_meaning.specs.States.{HasRoom}
-use Rattle.c_meaning.proofs.state.CState.step.Goals as goal
+use Rattle.c_meaning.proofs.state.CState.go_on.Goals as goal
 
 pub advance_thread-requires-clause-room : goal.advance_thread-requires-clause-room
 advance_thread-requires-clause-room c =
