@@ -12,7 +12,7 @@ use Rattle.c_meaning.specs.Values.{Env}
 use Rattle.c_meaning.specs.Blocks.{left}
 use Rattle.c_meaning.specs.Effects.{World, Own, Turn, Past, Calls, Forks, Returns, effect_of}
 use Rattle.c_meaning.specs.Acts.{turn_of}
-use Rattle.c_meaning.specs.Events.{Frame, Thread, Done, callee, callee_at, called, function_numbered, blank, own_of, event_in, frame_behind, frames_after, forked}
+use Rattle.c_meaning.specs.Events.{Frame, Thread, Done, callee, callee_at, function_numbered, blank, own_of, event_in, frame_behind, frames_after, forked}
 use Rattle.c_meaning.specs.Machine.{frame_shown, frames_shown, stepped, Stride, strides, strode, turned, Moved, moved_of, CallsNext, BlankFor}
 use Rattle.c_meaning.proofs.Threads.{old_shown, new_shown}
 

@@ -11,13 +11,13 @@ use Rattle.c_meaning.specs.declared.action.Action.TheVariants as act
 use Rattle.c_meaning.specs.declared.code.Block.{Block}
 use Rattle.c_meaning.specs.declared.thread.Frame as machine
 use Rattle.c_meaning.specs.declared.state.Thread as thread
-use Rattle.c_meaning.specs.Tree.{Stmts, Let, If, While, Check, Do, end, more, Term, Basic, Load, Store, Cas, Make, Free, NewLock, Acquire, Release, Read, Print, Call, Fork, Join, Return, Function}
+use Rattle.c_meaning.specs.Tree.{Stmts, Let, If, While, Check, Do, end, more, Basic, Load, Store, Cas, Make, Free, NewLock, Acquire, Release, Read, Print, Call, Fork, Join, Return, Function}
 use Rattle.c_meaning.specs.Values.{Env, Outcome, local_of, eval, eval_onto, arguments}
-use Rattle.c_meaning.specs.Effects.{World, Own, Effect, offset_of, base_of, cell_at, eval_number, count_of, has_fields, made_block, past, with_locks, lock_of_local, freed, joined, effect_of}
-use Rattle.c_meaning.specs.Events.{State, Frame, Thread, Done, faulted, event_in, event_from, event_of, event_of_frame, next_by, next_from, next_of, thread_of, state_after, atomic_at, ready, is_enabled, own_of, lock_ready, child_ready}
-use Rattle.c_meaning.specs.Machine.{frames_shown, frame_shown}
+use Rattle.c_meaning.specs.Effects.{World, Own, Effect, offset_of, base_of, cell_at, eval_number, count_of, has_fields, past, with_locks, lock_of_local, freed, joined, effect_of}
+use Rattle.c_meaning.specs.Events.{State, Thread, Done, faulted, event_in, event_from, event_of, event_of_frame, next_by, next_from, next_of, thread_of, state_after, atomic_at, ready, is_enabled, own_of, lock_ready, child_ready}
+use Rattle.c_meaning.specs.Machine.{frame_shown}
 use Rattle.c_meaning.specs.States.{thread_shown, frames_at, IsLast}
-use Rattle.c_meaning.specs.Touches.{is_atomic, touch_of}
+use Rattle.c_meaning.specs.Touches.{is_atomic}
 use Rattle.c_meaning.specs.Waits.{acts, lock_waits, waits_for, waits_at}
 use Rattle.c_meaning.proofs.StateEvents.{next_told, next_ended}
 use Rattle.pl_resource.specs.LockTable.{set_of, end_of}

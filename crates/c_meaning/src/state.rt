@@ -241,9 +241,7 @@ impl CState {
         ensures { result ≡ waits_at (frame_shown self.now.code frame.now).left (own_of (frame_shown self.now.code frame.now)) (shown self.now) }
     {
         match current(self.blocks.as_slice(), frame.spots.as_slice()) {
-            Some((_, Op::Do(basic))) => {
-                self.waits_for(basic, frame.env.as_slice(), frame.child)
-            }
+            Some((_, Op::Do(basic))) => { self.waits_for(basic, frame.env.as_slice(), frame.child) }
             _ => false,
         }
     }

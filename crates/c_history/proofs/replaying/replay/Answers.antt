@@ -28,7 +28,7 @@ pub returns-then-not-is_event-clause-exact : goal.returns-then-not-is_event-clau
 returns-then-not-is_event-clause-exact c =
     let p = plain_program c.args.program.now in
     let before = shown c.loop-k.state in
-    let after = shown c.attempt.new.state in
+    let after = shown c.attempt.new.self in
     let expected = c.in_ok-expected.expected in
     exact_there p c.args.input.now c.as_slice-events.result.now c.args.history.now.events c.loop-k.k before after _ expected c.is_event.result
     c.as_slice-events.ensures c.loop-k-test.true c.loop-k.invariant.reached (is_next p before after _ expected c.in_ok-expected.ensures.event c.in_ok-expected.ensures.none) c.is_event.ensures c.if-not-is_event.true
@@ -37,7 +37,7 @@ pub loop-k-preserved : goal.loop-k-preserved
 loop-k-preserved c =
     let p = plain_program c.args.program.now in
     let before = shown c.loop-k.state in
-    let after = shown c.attempt.new.state in
+    let after = shown c.attempt.new.self in
     let expected = c.in_ok-expected.expected in
     record {
       program = c.in_ok-expected.ensures.program;

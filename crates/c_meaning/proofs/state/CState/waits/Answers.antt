@@ -1,4 +1,4 @@
-use Rattle.std.proofs.Common.{◌≡◌, ap, sym, ◌∙◌, subst, slice_get, not, ◌&&◌, [], false}
+use Rattle.std.proofs.Common.{◌≡◌, ap, sym, ◌∙◌, subst, slice_get, not, ◌&&◌, false}
 use Rattle.c_meaning.specs.Acts.{shared}
 use Rattle.c_meaning.specs.Events.{next_of, is_enabled, own_of}
 use Rattle.c_meaning.specs.Machine.{functions_shown, frame_shown}
