@@ -1,0 +1,12 @@
+pub mod Products
+pub mod FormMerging
+pub mod FormSums
+pub mod FormLimits
+pub mod FormMultiples
+pub mod FormSteps
+pub mod Reducing
+pub mod PlaceLaws
+pub mod Divisors
+pub mod RowValues
+pub mod SolvingLaws
+pub mod NameLaws

@@ -1,0 +1,10 @@
+use Rattle.std.proofs.Common.{◌≡◌, drop}
+use Rattle.pl_forms.specs.Forms.{IsForm}
+use Rattle.pl_forms.specs.Equations.{reduced}
+use Rattle.pl_forms.proofs.equation.reduce_all.Given as goal
+
+abbrev pub invariant-loop-solution : goal.invariant-loop-solution
+invariant-loop-solution l = record {
+  so_far : reduced l.solutions l.form ≡ reduced (drop l.solution-index l.solutions) l.now;
+  is_form : IsForm l.now;
+}

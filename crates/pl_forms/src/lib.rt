@@ -1,0 +1,17 @@
+//! Linear forms, facts about them, equations that are solved, and rows of numbers in which sums are made.
+#![tactic(auto)]
+
+mod equation;
+mod fact;
+mod form;
+mod row;
+mod solving;
+mod step;
+
+pub use equation::{Eqs, Solution, counts, reduce};
+pub use fact::{Cert, CertItem, EqTerm, Fact, Facts, Shape};
+pub use form::{Form, Part, TermError};
+pub use row::{add_form, add_row, tighten};
+
+#[cfg(test)]
+mod tests;
