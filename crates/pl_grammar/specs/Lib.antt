@@ -1,0 +1,11 @@
+pub mod Signs
+pub mod Grammar
+pub mod PropGrammar
+pub mod StatementGrammar
+pub mod FileGrammar
+pub mod Readers
+pub mod PropReaders
+pub mod StatementReaders
+pub mod FileReaders
+pub mod Parts
+pub mod Refusals
