@@ -1,12 +1,13 @@
 //! The parts of a line: numbers, values and cells.
 
-ghost use Rattle.std.specs.Prelude.{◌≡◌, ◌<◌, ◌≤◌, ◌+◌, ◌^◌, ◌∷◌, [], IfOk, codes, length};
+ghost use Rattle.std.specs.Prelude.{◌≡◌, ◌<◌, ◌≤◌, ◌+◌, ◌-◌, ◌^◌, ◌∷◌, [], IfOk, IfSome, IsTrue, SomeIff, Ok, codes, length};
+ghost use Rattle.std.specs.Char.{is_ascii_digit};
 ghost use Rattle.pl_readers.specs.Bytes as spec;
 ghost use Rattle.pl_readers.specs.Given.{Gives};
 ghost use Rattle.c_history.specs.Readers as read;
 
 use crate::numbers::number;
-use pl_readers::bytes::{begins, word};
+use pl_readers::bytes::{begins, begins_number, word};
 use pl_readers::{ReadError, refused};
 use pl_resource::{Cell, Value};
 
@@ -14,11 +15,45 @@ const U32_LIMIT: u64 = 1 << 32;
 
 const I64_LIMIT: u64 = 1 << 63;
 
+fn digit(byte: u8) -> Option<u32>
+    ensures { SomeIff result (IsTrue (is_ascii_digit byte)) (byte - 48) }
+{
+    if byte.is_ascii_digit() {
+        Some(u32::from(byte - b'0'))
+    } else {
+        None
+    }
+}
+
+/// The number that a digit is where no digit stands behind it.
+#[tactic(auto, using(crate::proofs::SmallNumbers::lone_read))]
+fn lone_digit(byte: u8, rest: &[u8]) -> Option<u32>
+    ensures { IfSome result (λ n. read.unsigned (byte ∷ rest.now) ≡ Ok (n, rest.now)) }
+{
+    if begins_number(rest) {
+        return None;
+    }
+    digit(byte)
+}
+
+/// A number of one digit, as most in a history are, and what stands behind it.
+fn small(bytes: &[u8]) -> Option<(u32, &[u8])>
+    ensures { IfSome result (λ x. read.unsigned bytes.now ≡ Ok (x.0, x.1.now)) }
+{
+    match bytes {
+        [] => None,
+        [first, rest @ ..] => lone_digit(*first, rest).map(|n| (n, rest)),
+    }
+}
+
 /// A number of 32 bits, and what stands behind it.
 #[tactic(auto, unfolding(crate::specs::Readers::unsigned))]
 pub(crate) fn unsigned(bytes: &[u8]) -> Result<(u32, &[u8]), ReadError>
     ensures { Gives (λ x. (x.0, x.1.now)) result (read.unsigned bytes.now) }
 {
+    if let Some(found) = small(bytes) {
+        return Ok(found);
+    }
     let (n, rest) = number(bytes, U32_LIMIT)?;
     Ok((n as u32, rest))
 }

@@ -1,5 +1,5 @@
 -- A thread may act exactly where it stands before an action and waits for nothing.
-use Rattle.std.proofs.Common.{◌≡◌, ℕ, Bool, true, false, not, ◌&&◌, List, [], ◌∷◌, Option, Some, None, Result, Ok, Err, refl, sym, ap, ◌∙◌, if◌then◌else◌, length, map, slice_get, slice_index_or, zero, suc, ◌≤◌, arith}
+use Rattle.std.proofs.Common.{◌≡◌, ℕ, Bool, true, false, not, ◌&&◌, List, [], ◌∷◌, Option, Some, None, Result, Ok, Err, refl, sym, ap, ◌∙◌, if◌then◌else◌, length, map, slice_get, slice_index_or, zero, suc, ◌≤◌, arith, IfOk}
 use Rattle.pl_resource.specs.Faults.{chain}
 use Rattle.pl_resource.specs.declared.value.Fault.{Fault}
 use Rattle.pl_resource.specs.declared.value.Fault.TheVariants as fault
@@ -11,6 +11,7 @@ use Rattle.c_meaning.specs.declared.action.Action.TheVariants as act
 use Rattle.c_meaning.specs.declared.code.Block.{Block}
 use Rattle.c_meaning.specs.declared.thread.Frame as machine
 use Rattle.c_meaning.specs.declared.state.Thread as thread
+use Rattle.c_meaning.specs.declared.state.Ahead.{Ahead}
 use Rattle.c_meaning.specs.Tree.{Stmts, Let, If, While, Check, Do, end, more, Basic, Load, Store, Cas, Make, Free, NewLock, Acquire, Release, Read, Print, Call, Fork, Join, Return, Function}
 use Rattle.c_meaning.specs.Values.{Env, Outcome, local_of, eval, eval_onto, arguments}
 use Rattle.c_meaning.specs.Effects.{World, Own, Effect, offset_of, base_of, cell_at, eval_number, count_of, has_fields, past, with_locks, lock_of_local, freed, joined, effect_of}
@@ -134,3 +135,8 @@ not_there F s t h = ap (λ z. ready s (next_from F s z)) (none s.threads t h)
     none [] t h = refl
     none (x ∷ xs) zero h = absurd (omega arith)
     none (x ∷ xs) (suc t) h = none xs t (omega (arith, h))
+
+-- what is told of a thread's last frame is told of the thread
+pub waits_of : {E : Type 0} (T : List Block) (world : World) (ts : List thread.Thread) (t : ℕ) (f : machine.Frame) → IsLast (frames_at (slice_get ts t)) f → (r : Result Ahead E) → IfOk r (λ ahead. ahead.waits ≡ waits_at (frame_shown T f).left (own_of (frame_shown T f)) (record { world = world; threads = map (thread_shown T) ts })) → IfOk r (λ ahead. (F : List Function) → is_enabled F (record { world = world; threads = map (thread_shown T) ts }) t ≡ (not ahead.waits && acts (next_of F (record { world = world; threads = map (thread_shown T) ts }) t)))
+waits_of T world ts t f last (Err e) told = tt
+waits_of T world ts t f last (Ok ahead) told = λ F. frame_told F T world ts t f last ∙ ap (λ z. not z && acts (next_of F (record { world = world; threads = map (thread_shown T) ts }) t)) (sym told)

@@ -41,6 +41,13 @@ pub(crate) struct Thread {
     pub(crate) frames: Vec<Frame>,
 }
 
+/// What a thread stands before: whether it has ended or waits there, and the number of the function that it calls.
+#[derive(Clone, Copy)]
+struct Ahead {
+    waits: bool,
+    callee: Option<u32>,
+}
+
 /// A C program in its run: what its threads share, and their calls that aren't over. It shows a state, and tells for
 /// which thread's next event it has room.
 #[derive(Drop)]
@@ -132,8 +139,21 @@ impl CState {
         ensures ok { OnOk result (self.new.ready ≡ Some tid) }
         ensures refused { OnErr result (self.new.ready ≡ None) }
     {
+        self.look_ahead(tid)?;
+        Ok(())
+    }
+
+    // Makes room for the next event of a thread. The answer is whether it has ended or waits; a refusal leaves room for none.
+    fn look_ahead(&mut self, tid: u32) -> Result<bool, Memory>
+        requires { tid < length (shown self.old).threads }
+        ensures same { shown self.new ≡ shown self.old }
+        ensures runs { runs self.new ≡ runs self.old }
+        ensures ok { OnOk result (self.new.ready ≡ Some tid) }
+        ensures refused { OnErr result (self.new.ready ≡ None) }
+        ensures waits { IfOk result (λ waits. is_enabled (runs self.old) (shown self.old) tid ≡ (not waits && acts (next_of (runs self.old) (shown self.old) tid))) }
+    {
         self.ready = None;
-        self.callee = prepare_thread(
+        let ahead = prepare_thread(
             self.alloc,
             self.blocks.as_slice(),
             self.functions.as_slice(),
@@ -143,8 +163,9 @@ impl CState {
             &mut self.spare,
             &mut self.frames,
         )?;
+        self.callee = ahead.callee;
         self.ready = Some(tid);
-        Ok(())
+        Ok(ahead.waits)
     }
 
     /// The next event of a thread. It takes no memory.
@@ -183,10 +204,9 @@ impl CState {
         ensures locks { IfOk result (λ r. OnSome r (length (shown self.new).world.locks ≤ suc (length (shown self.old).world.locks))) }
         ensures threads { IfOk result (λ r. OnSome r (length (shown self.new).threads ≤ suc (length (shown self.old).threads))) }
     {
-        if tid >= self.threads() || self.waits(tid) {
+        if tid >= self.threads() || self.look_ahead(tid)? {
             return Ok(None);
         }
-        self.make_room(program, tid)?;
         Ok(self.go_on(tid))
     }
 
@@ -226,39 +246,6 @@ impl CState {
         }
     }
 
-    // Whether a thread has ended, or waits for a lock or another thread.
-    fn waits(&self, tid: u32) -> bool
-        requires { tid < length (shown self.now).threads }
-        ensures { is_enabled (runs self.now) (shown self.now) tid ≡ (not result && acts (next_of (runs self.now) (shown self.now) tid)) }
-    {
-        match last_frame(frames_of(self.threads.as_slice(), tid as usize)) {
-            None => true,
-            Some(frame) => self.frame_waits(frame),
-        }
-    }
-
-    fn frame_waits(&self, frame: &Frame) -> bool
-        ensures { result ≡ waits_at (frame_shown self.now.code frame.now).left (own_of (frame_shown self.now.code frame.now)) (shown self.now) }
-    {
-        match current(self.blocks.as_slice(), frame.spots.as_slice()) {
-            Some((_, Op::Do(basic))) => { self.waits_for(basic, frame.env.as_slice(), frame.child) }
-            _ => false,
-        }
-    }
-
-    fn waits_for(&self, basic: &Basic, env: &[Value], child: Option<u32>) -> bool
-        ensures { result ≡ waits_for (plain_basic basic.now) (record { env = env.now; child = child }) (shown self.now) }
-    {
-        match basic {
-            Basic::Acquire(x) => match lock_of(env, *x) {
-                Ok(lock) => !self.lock_ready(Some(lock)),
-                Err(_) => false,
-            },
-            Basic::Join => !self.child_ready(child),
-            _ => false,
-        }
-    }
-
     /// What a thread stands before: an action with what this touches, a fault, or its end.
     pub fn next_action(&self, tid: u32) -> Next
         requires { tid < length (shown self.now).threads }
@@ -288,33 +275,52 @@ impl CState {
         ensures { result ≡ is_enabled (runs self.now) (shown self.now) tid }
     {
         match self.next_action(tid) {
-            Next::Act(touch) => self.lock_ready(touch.lock) && self.child_ready(touch.child),
+            Next::Act(touch) => {
+                lock_ready(&self.world, touch.lock)
+                    && child_ready(self.threads.as_slice(), touch.child)
+            }
             _ => false,
         }
     }
+}
 
-    fn lock_ready(&self, lock: Option<u32>) -> bool
-        ensures { result ≡ lock_ready (shown self.now).world.locks lock }
-    {
-        match lock {
-            None => true,
-            Some(k) => match self.world.locks.is_free(k) {
-                Ok(free) => free,
-                Err(_) => false,
-            },
-        }
+// Whether a lock is free, where one is wanted.
+fn lock_ready(world: &World, lock: Option<u32>) -> bool
+    ensures { result ≡ lock_ready (shared world.now).locks lock }
+{
+    match lock {
+        None => true,
+        Some(k) => match world.locks.is_free(k) {
+            Ok(free) => free,
+            Err(_) => false,
+        },
     }
+}
 
-    fn child_ready(&self, child: Option<u32>) -> bool
-        ensures { result ≡ child_ready (shown self.now).threads child }
-    {
-        match child {
-            None => true,
-            Some(t) => match self.threads.get(t as usize) {
-                Some(thread) => thread.frames.is_empty(),
-                None => false,
-            },
-        }
+// Whether a thread has ended, where one is joined.
+fn child_ready(threads: &[Thread], child: Option<u32>) -> bool
+    ensures { (T : List Block) → result ≡ child_ready (map (thread_shown T) threads.now) child }
+{
+    match child {
+        None => true,
+        Some(t) => match threads.get(t as usize) {
+            Some(thread) => thread.frames.is_empty(),
+            None => false,
+        },
+    }
+}
+
+// Whether a statement waits for a lock or another thread.
+fn waits_for(basic: &Basic, frame: &Frame, threads: &[Thread], world: &World) -> bool
+    ensures { (T : List Block) → result ≡ waits_for (plain_basic basic.now) (own_of (frame_shown T frame.now)) (record { world = shared world.now; threads = map (thread_shown T) threads.now }) }
+{
+    match basic {
+        Basic::Acquire(x) => match lock_of(frame.env.as_slice(), *x) {
+            Ok(lock) => !lock_ready(world, Some(lock)),
+            Err(_) => false,
+        },
+        Basic::Join => !child_ready(threads, frame.child),
+        _ => false,
     }
 }
 
@@ -470,19 +476,31 @@ fn basic_room(basic: &Basic, env: &[Value], world: &mut World) -> Result<(), Mem
     }
 }
 
-// Room for what a frame makes or prints next, if it does: the answer is the number of the function that it calls.
-fn block_room(code: &[Block], frame: &Frame, world: &mut World) -> Result<Option<u32>, Memory>
+// Room for what a frame makes or prints next, if it does: the answer is what it stands before.
+fn block_room(
+    code: &[Block],
+    frame: &Frame,
+    threads: &[Thread],
+    world: &mut World,
+) -> Result<Ahead, Memory>
     requires { IsTable code.now }
     ensures same { shared world.new ≡ shared world.old }
     ensures room { OnOk result (BlockRoomAt frame.now.env.items (frame_shown code.now frame.now).left world.new) }
-    ensures callee { IfOk result (λ callee. callee ≡ callee_at (frame_shown code.now frame.now).left) }
+    ensures callee { IfOk result (λ ahead. ahead.callee ≡ callee_at (frame_shown code.now frame.now).left) }
+    ensures waits { IfOk result (λ ahead. ahead.waits ≡ waits_at (frame_shown code.now frame.now).left (own_of (frame_shown code.now frame.now)) (record { world = shared world.old; threads = map (thread_shown code.now) threads.now })) }
 {
     match current(code, frame.spots.as_slice()) {
         Some((_, Op::Do(basic))) => {
             basic_room(basic, frame.env.as_slice(), world)?;
-            Ok(basic.callee())
+            Ok(Ahead {
+                waits: waits_for(basic, frame, threads, world),
+                callee: basic.callee(),
+            })
         }
-        _ => Ok(None),
+        _ => Ok(Ahead {
+            waits: false,
+            callee: None,
+        }),
     }
 }
 
@@ -510,16 +528,25 @@ fn make_block_room(
     }
 }
 
-// Room for what a thread makes or prints next, if it does: the answer is the number of the function that it calls.
-fn thread_room(code: &[Block], frames: &[Frame], world: &mut World) -> Result<Option<u32>, Memory>
+// Room for what a thread makes or prints next, if it does: the answer is what it stands before.
+fn thread_room(
+    code: &[Block],
+    threads: &[Thread],
+    t: usize,
+    world: &mut World,
+) -> Result<Ahead, Memory>
     requires { IsTable code.now }
     ensures same { shared world.new ≡ shared world.old }
-    ensures room { OnOk result (MakesRoom (frames_shown code.now frames.now) world.new) }
-    ensures callee { IfOk result (λ callee. CallsNext callee (frames_shown code.now frames.now)) }
+    ensures room { OnOk result (MakesRoom (frames_shown code.now (frames_at (slice_get threads.now t))) world.new) }
+    ensures callee { IfOk result (λ ahead. CallsNext ahead.callee (frames_shown code.now (frames_at (slice_get threads.now t)))) }
+    ensures waits { IfOk result (λ ahead. (F : List tree.Function) → is_enabled F (record { world = shared world.old; threads = map (thread_shown code.now) threads.now }) t ≡ (not ahead.waits && acts (next_of F (record { world = shared world.old; threads = map (thread_shown code.now) threads.now }) t))) }
 {
-    match last_frame(frames) {
-        None => Ok(None),
-        Some(frame) => block_room(code, frame, world),
+    match last_frame(frames_of(threads, t)) {
+        None => Ok(Ahead {
+            waits: true,
+            callee: None,
+        }),
+        Some(frame) => block_room(code, frame, threads, world),
     }
 }
 
@@ -547,8 +574,8 @@ fn frame_room(threads: &mut Vec<Thread>, t: usize) -> Result<(), Memory>
     reserve_one(&mut threads[t].frames)
 }
 
-// Room for the next event of a thread: the answer is the number of the function that it calls, for which the spare frame is made. The
-// frames of a thread that it starts come into `first`.
+// Room for the next event of a thread: the answer is what it stands before, and for the function that it calls the spare frame is
+// made. The frames of a thread that it starts come into `first`.
 fn prepare_thread(
     alloc: Global,
     code: &[Block],
@@ -558,7 +585,7 @@ fn prepare_thread(
     world: &mut World,
     spare: &mut Frame,
     first: &mut Vec<Frame>,
-) -> Result<Option<u32>, Memory>
+) -> Result<Ahead, Memory>
     requires code { IsCode code.now functions.now }
     requires there { t < length threads.old.items }
     requires spare { spare.old.spots.items ≡ [] }
@@ -567,17 +594,18 @@ fn prepare_thread(
     ensures fits { ThreadsFit code.now threads.old.items → ThreadsFit code.now threads.new.items }
     ensures len { length threads.new.items ≡ length threads.old.items }
     ensures world { shared world.new ≡ shared world.old }
-    ensures room { IfOk result (λ callee. HasRoom code.now (functions_shown code.now functions.now) (slice_get threads.new.items t) world.new callee spare.new) }
+    ensures room { IfOk result (λ ahead. HasRoom code.now (functions_shown code.now functions.now) (slice_get threads.new.items t) world.new ahead.callee spare.new) }
     ensures thread { OnOk result ((vec_len threads.new < vec_capacity threads.new) × (1 ≤ vec_capacity first.new)) }
     ensures spare { spare.new.spots.items ≡ [] }
     ensures empty { first.new.items ≡ [] }
+    ensures waits { IfOk result (λ ahead. (F : List tree.Function) → is_enabled F (record { world = shared world.old; threads = map (thread_shown code.now) threads.old.items }) t ≡ (not ahead.waits && acts (next_of F (record { world = shared world.old; threads = map (thread_shown code.now) threads.old.items }) t))) }
 {
-    let callee = thread_room(code, frames_of(threads.as_slice(), t), world)?;
-    make_spare(alloc, functions, callee, spare)?;
+    let ahead = thread_room(code, threads.as_slice(), t, world)?;
+    make_spare(alloc, functions, ahead.callee, spare)?;
     frame_room(threads, t)?;
     reserve_one(threads)?;
     reserve_one(first)?;
-    Ok(callee)
+    Ok(ahead)
 }
 
 // The event of a thread.
