@@ -59,7 +59,7 @@ gcd_le zero a b m h k = h
 gcd_le (suc f) a zero m h k = h
 gcd_le (suc f) a (suc b) m h k = gcd_le f (suc b) (a % suc b) m k (le_trans (bound a b b (omega arith)) (omega arith))
 
-one_le : (a b m : ℕ) → a ≤ m → b ≤ m → gcd a b ≤ m
+pub one_le : (a b m : ℕ) → a ≤ m → b ≤ m → gcd a b ≤ m
 unfolding gcd
 one_le a b m h k = gcd_le b a b m h k
 

@@ -10,3 +10,5 @@ pub mod Divisors
 pub mod RowValues
 pub mod SolvingLaws
 pub mod NameLaws
+pub mod Tightness
+pub mod TermLaws

@@ -56,7 +56,7 @@ reduce_value ss f (Ok g) h = λ v m. reduced_value v ss f g m h
 other_than_none : (c : ℤ) → int_eq c (pos 0) ≡ false → c ≢ pos 0
 other_than_none c h = grind (arith, ints)
 
-removed_form : (s : Solution) (f g : Form) → IsForm s.form → IsForm f → remove s f ≡ Ok g → IsForm g
+pub removed_form : (s : Solution) (f g : Form) → IsForm s.form → IsForm f → remove s f ≡ Ok g → IsForm g
 removed_form s f g p q h =
     (elim (int_eq (coeff_of s.atom f.parts) (pos 0)) as (λ b. int_eq (coeff_of s.atom f.parts) (pos 0) ≡ b → cond b (Ok f) (plus f (opposite s.minus (coeff_of s.atom f.parts)) s.form) ≡ Ok g → IsForm g) [
       | true ↦ λ n e. let same : f ≡ g = cc in rw (← same) q

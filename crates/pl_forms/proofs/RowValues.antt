@@ -51,7 +51,7 @@ neg_exact : (g q n : ℕ) → q * g ≡ suc n → pos g *ℤ neg_ℤ (pos q) ≡
 neg_exact g zero n e = absurd (omega arith)
 neg_exact g (suc q) n e = let k : g * suc q ≡ suc n = omega arith in pos-*ℤ-negsuc g q ∙ ap (λ z. neg_ℤ (pos z)) k
 
-exact : (g : ℕ) (c : ℤ) → 0 < g → g ∣ unsigned_abs c → pos g *ℤ int_div c (pos g) ≡ c
+pub exact : (g : ℕ) (c : ℤ) → 0 < g → g ∣ unsigned_abs c → pos g *ℤ int_div c (pos g) ≡ c
 exact g (pos n) h p = pos-*ℤ-pos g (n / g) ∙ ap pos (omega (arith, div-mul_cancel g p))
 exact g (negsuc n) h p = neg_exact g (suc n / g) n (div-mul_cancel g p)
 

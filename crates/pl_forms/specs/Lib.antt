@@ -5,3 +5,5 @@ pub mod Equations
 pub mod Rows
 pub mod Places
 pub mod Solving
+pub mod Terms
+pub mod Tightening

@@ -1,12 +1,15 @@
-ghost use Rattle.std.specs.Prelude.{◌≡◌, ◌≢◌, ℕ, ℤ, pos, neg_ℤ, ◌≤◌, ◌^◌, unsigned_abs, if◌then◌else◌, IfOk};
+ghost use Rattle.std.specs.Prelude.{◌≡◌, ◌≢◌, ℕ, ℤ, pos, neg_ℤ, ◌≤◌, ◌^◌, ◌++◌, unsigned_abs, if◌then◌else◌, IfOk};
+ghost use Rattle.std.specs.List.{All};
 ghost use Rattle.pl_forms.specs.Forms.{IsForm, Answers, value};
 ghost use Rattle.pl_forms.specs.Facts.{IsGuard};
 ghost use Rattle.pl_forms.specs.Places.{Within, AllSolvedWithin};
 ghost use Rattle.pl_forms.specs.Equations.{AreSolutions, MeetsSolved, coeff_of, opposite, remove, reduced, is_one, counted, Tells};
+ghost use Rattle.pl_forms.specs.Terms.{removal, terms, Reduces};
 
+use crate::fact::EqTerm;
 use crate::form::{Form, Part, TermError};
 use pl_base::Items;
-use std::alloc::Global;
+use std::alloc::{AllocError, Global};
 
 /// An equation that was solved for an atom whose multiple in it is 1 or -1.
 #[derive(Debug, Drop)]
@@ -90,6 +93,65 @@ fn removing(minus: bool, coeff: i64) -> i128
     } else {
         -i128::from(coeff)
     }
+}
+
+/// A reduced form, and the multiples of solved equations that were added to reduce it.
+#[derive(Debug, Drop)]
+pub struct Reduced {
+    pub form: Form,
+    pub terms: Items<EqTerm>,
+}
+
+/// A form reduced by solved equations, and which multiples of their forms were added, in the order of solving.
+pub fn reduce_with(alloc: Global, solutions: &[Solution], form: &Form) -> Result<Reduced, TermError>
+    requires solutions { AreSolutions solutions.now }
+    requires form { IsForm form.now }
+    ensures exact { Reduces result (reduced solutions.now form.now) (terms solutions.now form.now) }
+    ensures form { IfOk result (λ r. IsForm r.form) }
+    ensures sizes { IfOk result (λ r. All (λ t. unsigned_abs t.times ≤ 2 ^ 40) r.terms) }
+    ensures atoms { IfOk result (λ r. (n : ℕ) → AllSolvedWithin n solutions.now → Within n form.now → Within n r.form) }
+{
+    remove_all(alloc, solutions, form)
+}
+
+fn remove_all(alloc: Global, solutions: &[Solution], form: &Form) -> Result<Reduced, TermError>
+    requires solutions { AreSolutions solutions.now }
+    requires form { IsForm form.now }
+    ensures exact { Reduces result (reduced solutions.now form.now) (terms solutions.now form.now) }
+    ensures form { IfOk result (λ r. IsForm r.form) }
+{
+    let mut now = form.copy(alloc)?;
+    let mut terms = Vec::new(alloc);
+    for solution in solutions {
+        push_removal(&mut terms, &now, solution)?;
+        now = remove_one(alloc, now, solution)?;
+    }
+    Ok(Reduced {
+        form: now,
+        terms: Items::of(terms),
+    })
+}
+
+// One more multiple, that which removes the atom of a solved equation; none where the form doesn't have it.
+fn push_removal(terms: &mut Vec<EqTerm>, form: &Form, solution: &Solution) -> Result<(), AllocError>
+    requires form { IsForm form.now }
+    ensures { IfOk result (λ _. terms.new.items ≡ terms.old.items ++ removal solution.now form.now) }
+{
+    let coeff = multiple_of(form.parts.as_slice(), solution.atom);
+    if coeff != 0 {
+        terms.push(EqTerm {
+            times: removing_small(solution.minus, coeff),
+            fact: solution.fact,
+        })?;
+    }
+    Ok(())
+}
+
+fn removing_small(minus: bool, coeff: i64) -> i64
+    requires { unsigned_abs coeff ≤ 2 ^ 40 }
+    ensures { result ≡ opposite minus coeff }
+{
+    if minus { coeff } else { -coeff }
 }
 
 /// Whether a fact with this guard counts: it has none, or one that reduces to 1.

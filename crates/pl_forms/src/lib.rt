@@ -7,11 +7,13 @@ mod form;
 mod row;
 mod solving;
 mod step;
+mod tightening;
 
-pub use equation::{Eqs, Solution, counts, reduce};
+pub use equation::{Eqs, Reduced, Solution, counts, reduce, reduce_with};
 pub use fact::{Cert, CertItem, EqTerm, Fact, Facts, Shape};
 pub use form::{Form, Part, TermError};
 pub use row::{add_form, add_row, tighten};
+pub use tightening::tighten_form;
 
 #[cfg(test)]
 mod tests;

@@ -83,7 +83,7 @@ pub fn add_row(total: &mut [i128], times: i128, row: &[i128]) -> bool
     true
 }
 
-fn greatest(one: u128, other: u128) -> u128
+pub(crate) fn greatest(one: u128, other: u128) -> u128
     ensures { result ≡ gcd one other }
 {
     let mut a = one;
@@ -107,7 +107,7 @@ fn common(row: &[i128]) -> u128
     g
 }
 
-fn ceiling(k: i128, g: u128) -> i128
+pub(crate) fn ceiling(k: i128, g: u128) -> i128
     requires some { 0 < g }
     requires divisor { g ≤ 2 ^ 126 }
     requires size { unsigned_abs k ≤ 2 ^ 126 }

@@ -42,7 +42,7 @@ shape_law v Below false f d e some w m h = let r = form_law v (pos 1) f d e some
 shape_law v Differs back f d e some w m h = absurd cc
 
 -- what a list says of the element that `get` finds
-got : (fs : List Fact) (i : ℕ) (f : Fact) (P : Fact → Type 0) → All P fs → slice_get fs i ≡ Some f → P f
+pub got : (fs : List Fact) (i : ℕ) (f : Fact) (P : Fact → Type 0) → All P fs → slice_get fs i ≡ Some f → P f
 got [] i f P a h = absurd cc
 got (g ∷ gs) zero f P a h = let e : g ≡ f = cc in subst P e (a 0 g (omega arith))
 got (g ∷ gs) (suc i) f P a h = got gs i f P (λ k z lt. a (suc k) z (omega arith)) h
@@ -51,7 +51,7 @@ if_so : (b : Bool) (o : Option (List ℤ)) (e : List ℤ) → cond b o None ≡ 
 if_so true o e h = (refl, h)
 if_so false o e h = absurd cc
 
-yes_is : (r : Result Bool TermError) → is_yes r ≡ true → r ≡ Ok true
+pub yes_is : (r : Result Bool TermError) → is_yes r ≡ true → r ≡ Ok true
 yes_is (Ok true) h = refl
 yes_is (Ok false) h = absurd cc
 yes_is (Err e) h = absurd cc

@@ -1,2 +1,17 @@
 pub mod CertificateLaws
 pub mod Splitting
+pub mod Multiples
+pub mod FormRows
+pub mod Cycles
+pub mod ItemRows
+pub mod TightRows
+pub mod BackRows
+pub mod Given
+pub mod Opposites
+pub mod Numbers
+pub mod Listing
+pub mod Counts
+pub mod Graph
+pub mod CycleItems
+pub mod Settling
+pub mod Outcomes

@@ -1,9 +1,10 @@
-ghost use Rattle.std.specs.Prelude.{◌≡◌, ℕ, ℤ, ◌-ℤ◌, ◌≤◌, ◌^◌, unsigned_abs, map, ◌∷◌, [], IfOk};
-ghost use Rattle.pl_forms.specs.Forms.{Small, parts_value};
+ghost use Rattle.std.specs.Prelude.{◌≡◌, ℕ, ℤ, neg_ℤ, ◌-ℤ◌, ◌≤◌, ◌^◌, unsigned_abs, map, ◌∷◌, [], IfOk};
+ghost use Rattle.pl_forms.specs.Forms.{IsForm, Small, parts_value};
+ghost use Rattle.pl_linear.specs.Duty.{opposite_form};
 ghost use Rattle.pl_linear.specs.Ends.{minus, split};
 
 use pl_base::{Items, Memory};
-use pl_forms::Part;
+use pl_forms::{Form, Part};
 use std::alloc::Global;
 
 /// Two sums of atoms, of which each is zero, an atom or a sum whose first multiple is positive.
@@ -61,6 +62,26 @@ fn to_only(alloc: Global, parts: &[Part]) -> Result<Ends, Memory>
         to: Items::of(to),
         from: Items::of(Vec::new(alloc)),
     })
+}
+
+/// The opposite of a form.
+pub(crate) fn opposite_of(alloc: Global, form: &Form) -> Result<Form, Memory>
+    requires { IsForm form.now }
+    ensures is { IfOk result (λ f. f ≡ opposite_form form.now) }
+    ensures form { IfOk result (λ f. IsForm f) }
+{
+    let parts = opposites(alloc, form.parts.as_slice())?;
+    Ok(Form {
+        parts: Items::of(parts),
+        constant: opposite_constant(form.constant),
+    })
+}
+
+fn opposite_constant(constant: i128) -> i128
+    requires { unsigned_abs constant ≤ 2 ^ 80 }
+    ensures { result ≡ neg_ℤ constant }
+{
+    -constant
 }
 
 fn opposites(alloc: Global, parts: &[Part]) -> Result<Vec<Part>, Memory>

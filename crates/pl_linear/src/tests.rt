@@ -1,4 +1,4 @@
-ghost use Rattle.std.specs.Prelude.{◌≡◌, ◌≤◌, length, IfOk};
+ghost use Rattle.std.specs.Prelude.{◌≡◌, ◌≤◌, ◌^◌, [], length, unsigned_abs, IfOk};
 ghost use Rattle.std.specs.List.{All};
 ghost use Rattle.pl_forms.specs.Forms.{IsForm};
 ghost use Rattle.pl_forms.specs.Facts.{IsFact};
@@ -6,7 +6,7 @@ ghost use Rattle.pl_forms.specs.Places.{Within, AllWithin};
 
 use super::*;
 use pl_base::{Items, Memory};
-use pl_forms::{Cert, CertItem, EqTerm, Eqs, Fact, Facts, Form, Part, Shape};
+use pl_forms::{Cert, CertItem, EqTerm, Eqs, Fact, Facts, Form, Part, Shape, TermError};
 use std::alloc::Global;
 use std::test::*;
 
@@ -68,5 +68,149 @@ fn a_difference_has_two_ends(rt: HostRuntime) -> Result<(), Fail> {
     assert_eq!(rt; ends.to.as_slice(), [one].as_slice());
     let from = Part { coeff: 1, atom: 5 };
     assert_eq!(rt; ends.from.as_slice(), [from].as_slice());
+    Ok(())
+}
+
+// A multiple of atom 0, a multiple of atom 1, and a constant.
+fn sum(alloc: Global, one: i128, other: i128, constant: i128) -> Result<Form, TermError>
+    requires { unsigned_abs constant ≤ 2 ^ 80 }
+    ensures { IfOk result (λ f. IsForm f) }
+{
+    let first = Form::scale(alloc, one, &Form::of_atom(alloc, 0)?)?;
+    let second = Form::scale(alloc, other, &Form::of_atom(alloc, 1)?)?;
+    let both = Form::add(alloc, &first, &second)?;
+    Form::add(alloc, &both, &Form::of_constant(alloc, constant))
+}
+
+// No facts.
+fn nothing(alloc: Global) -> Facts
+    ensures { result.list ≡ [] }
+{
+    Facts {
+        list: Items::of(Vec::new(alloc)),
+    }
+}
+
+// One fact without a guard.
+fn known(alloc: Global, shape: Shape, form: Form) -> Result<Facts, Memory>
+    requires { IsForm form }
+    ensures facts { IfOk result (λ f. All IsFact f.list) }
+    ensures few { IfOk result (λ f. length f.list ≤ 1024) }
+{
+    let fact = Fact {
+        label: None,
+        guard: None,
+        shape,
+        form,
+    };
+    let list = vec![in alloc; fact]?;
+    Ok(Facts {
+        list: Items::of(list),
+    })
+}
+
+#[test]
+fn a_sum_is_one_node(rt: HostRuntime) -> Result<(), Fail> {
+    // 2 * x + 2 * y <= 7 fails at x + y = 4
+    let alloc = rt.alloc();
+    let goal = sum(alloc, 2, 2, -7)?;
+    let Found::Point(point) = find(alloc, &nothing(alloc), &goal)? else {
+        return Err("a certificate")?;
+    };
+    let values = point.as_slice();
+    assert_eq!(rt; values.len(), 2);
+    assert_eq!(rt; values[0].value, 0);
+    assert_eq!(rt; values[1].node.parts.as_slice().len(), 2);
+    assert_eq!(rt; values[1].value, 4);
+    Ok(())
+}
+
+#[test]
+fn a_difference_is_two_nodes(rt: HostRuntime) -> Result<(), Fail> {
+    // x <= y fails at x = 0, y = -1
+    let alloc = rt.alloc();
+    let goal = sum(alloc, 1, -1, 0)?;
+    let Found::Point(point) = find(alloc, &nothing(alloc), &goal)? else {
+        return Err("a certificate")?;
+    };
+    let values = point.as_slice();
+    assert_eq!(rt; values.len(), 3);
+    let y = Part { coeff: 1, atom: 1 };
+    assert_eq!(rt; values[1].node.parts.as_slice(), [y].as_slice());
+    assert_eq!(rt; values[1].value, -1);
+    let x = Part { coeff: 1, atom: 0 };
+    assert_eq!(rt; values[2].node.parts.as_slice(), [x].as_slice());
+    assert_eq!(rt; values[2].value, 0);
+    Ok(())
+}
+
+#[test]
+fn a_weaker_bound_follows(rt: HostRuntime) -> Result<(), Fail> {
+    // x <= 3 gives x <= 4
+    let alloc = rt.alloc();
+    let facts = known(alloc, Shape::Below, sum(alloc, 1, 0, -3)?)?;
+    let found = find(alloc, &facts, &sum(alloc, 1, 0, -4)?)?;
+    let Found::Cert(cert) = found else {
+        return Err("a point")?;
+    };
+    assert_eq!(rt; cert.items.as_slice().len(), 2);
+    Ok(())
+}
+
+#[test]
+fn an_equation_without_a_solution_gives_all(rt: HostRuntime) -> Result<(), Fail> {
+    // 3 * x - 3 * y == 1 holds of no whole numbers
+    let alloc = rt.alloc();
+    let facts = known(alloc, Shape::Zero, sum(alloc, 3, -3, -1)?)?;
+    let found = find(alloc, &facts, &sum(alloc, 0, 0, 1)?)?;
+    assert!(rt; matches!(found, Found::Cert(_)));
+    Ok(())
+}
+
+#[test]
+fn the_negated_goal_passes_its_limit(rt: HostRuntime) -> Result<(), Fail> {
+    // 0 <= 2^80
+    let alloc = rt.alloc();
+    let goal = sum(alloc, 0, 0, -1_208_925_819_614_629_174_706_176)?;
+    let found = find(alloc, &nothing(alloc), &goal);
+    assert!(rt;
+        matches!(
+            found,
+            Err(TermError::TooLarge(1_208_925_819_614_629_174_706_177))
+        )
+    );
+    Ok(())
+}
+
+#[test]
+fn a_form_that_reduces_to_nought_needs_the_equations_alone(rt: HostRuntime) -> Result<(), Fail> {
+    // x == y gives 2 * x - 2 * y == 0: less twice x - y there is nothing left
+    let alloc = rt.alloc();
+    let facts = known(alloc, Shape::Zero, sum(alloc, 1, -1, 0)?)?;
+    let eqs = Eqs::of(alloc, &facts)?;
+    let found = find_equal(alloc, &eqs, &facts, &sum(alloc, 2, -2, 0)?)?;
+    let FoundEqual::Terms(terms) = found else {
+        return Err("not by the equations")?;
+    };
+    let twice = EqTerm { times: -2, fact: 0 };
+    assert_eq!(rt; terms.as_slice(), [twice].as_slice());
+    Ok(())
+}
+
+#[test]
+fn the_second_part_of_an_equality_has_a_point(rt: HostRuntime) -> Result<(), Fail> {
+    // x <= 3 leaves x == 3 undone at x = 0
+    let alloc = rt.alloc();
+    let facts = known(alloc, Shape::Below, sum(alloc, 1, 0, -3)?)?;
+    let eqs = Eqs::of(alloc, &facts)?;
+    let found = find_equal(alloc, &eqs, &facts, &sum(alloc, 1, 0, -3)?)?;
+    let FoundEqual::Apart(point) = found else {
+        return Err("no point")?;
+    };
+    let values = point.as_slice();
+    assert_eq!(rt; values.len(), 2);
+    let x = Part { coeff: 1, atom: 0 };
+    assert_eq!(rt; values[1].node.parts.as_slice(), [x].as_slice());
+    assert_eq!(rt; values[1].value, 0);
     Ok(())
 }

@@ -1,0 +1,29 @@
+use Rattle.std.proofs.Common.{◌∷◌, [], map, sym, ◌∙◌, arith}
+use Rattle.std.proofs.lemmas.Result.{err_from_is_err_and}
+use Rattle.std.proofs.lemmas.List.{map-append}
+use Rattle.pl_readers.proofs.Turns.{turn-begins, turn-goes, turn-stops, turn-ends}
+use Rattle.pl_readers.proofs.Failing.{Fails-if}
+use Rattle.pl_grammar.specs.StatementReaders as read
+use Rattle.pl_syntax.specs.Plain.{plain_stmt}
+use Rattle.pl_grammar.proofs.StatementFormats.{format_load_rule}
+use Rattle.pl_statements.proofs.blocks.loads.Goals as goal
+
+pub turns-init : goal.turns-init
+turns-init c = record { same = rw c.new-all.ensures.items (turn-begins (read.loads c.args.depth) c.args.tokens.now); less = omega arith }
+
+pub turns-preserved : goal.turns-preserved
+turns-preserved c =
+    record {
+      same = rw (c.in_ok-push.ensures.items, map-append plain_stmt c.turns.all.items (c.in_ok-item.item ∷ [])) (sym (turn-goes _ _ _ _ _ (format_load_rule c.args.depth).reads (format_load_rule c.args.depth).starts (map plain_stmt c.turns.all.items) (plain_stmt c.in_ok-item.item) c.turns.rest.now c.in_ok-item.after.now (sym c.begins.ensures ∙ c.turns-test.true) c.in_ok-item.ensures.value) ∙ c.turns.invariant.same);
+      less = omega (arith, c.in_ok-item.ensures.less, c.turns.invariant.less);
+    }
+
+pub returns-in_err-item-clause-value : goal.returns-in_err-item-clause-value
+returns-in_err-item-clause-value c =
+    let p = err_from_is_err_and c.from_residual.result c.from_residual.ensures.1 in
+    rw (p.1, p.2) (Fails-if _ _ _ c.in_err-item.ensures.value
+    (λ s e. sym c.turns.invariant.same ∙ turn-stops _ _ _ _ _ (format_load_rule c.args.depth).reads (format_load_rule c.args.depth).starts (map plain_stmt c.turns.all.items) c.turns.rest.now s (sym c.begins.ensures ∙ c.turns-test.true) e))
+
+pub returns-clause-value : goal.returns-clause-value
+returns-clause-value c =
+    rw c.of.ensures (sym c.turns.invariant.same ∙ turn-ends _ _ _ _ _ (format_load_rule c.args.depth).reads (format_load_rule c.args.depth).starts (map plain_stmt c.turns.all.items) c.turns.rest.now (sym c.begins.ensures ∙ c.turns-test.false))

@@ -1,0 +1,11 @@
+pub mod ArmLaws
+pub mod Drops
+pub mod Leasts
+pub mod ScopeLaws
+pub mod SeenLaws
+pub mod StmtLaws
+pub mod TableLaws
+pub mod TreeLaws
+pub mod ViewLaws
+pub mod WrittenLaws
+pub mod ZipLaws

@@ -1,0 +1,10 @@
+pub mod Breaches
+pub mod Scopes
+pub mod Known
+pub mod Exprs
+pub mod Props
+pub mod Stmts
+pub mod Decls
+pub mod Typing
+pub mod Held
+pub mod Tables
