@@ -355,6 +355,40 @@ under spot = move_to (nested spot.inside) spot
 abbrev pub rewrite_breaches : Known → Scope → Pos → Prop → Prop → List Breach
 rewrite_breaches known scope place a b = unless (same_atom scope a b) IllTyped place ++ prop_breaches known scope a ++ prop_breaches known scope b
 
+-- breaches of a statement of ghost code without a block and without a proposition
+abbrev pub ghost_breaches : Known → Spot → Scope → Stmt → List Breach
+ghost_breaches known spot scope (t.GLet place name e) = ghost scope x.value e
+ghost_breaches known spot scope (t.GAlloc place name e) = ghost scope integer e
+ghost_breaches known spot scope (t.NewInv place name i) =
+    outside_breaches spot place ++ instance_breaches mode.Ghost known scope i
+ghost_breaches known spot scope (t.Fold place i) = instance_breaches mode.Read known scope i
+ghost_breaches known spot scope (t.Unfold place i) = instance_breaches mode.Read known scope i
+ghost_breaches known spot scope (t.Share place key) = key_breaches known scope place key
+ghost_breaches known spot scope (t.Gather place key) = key_breaches known scope place key
+ghost_breaches known spot scope (t.Split place a lo hi m) =
+    range_breaches scope a lo hi ++ read scope integer m
+ghost_breaches known spot scope (t.Join place a lo m hi) =
+    range_breaches scope a lo m ++ read scope integer hi
+ghost_breaches known spot scope (t.Focus place base i) = read_name scope x.array place base ++ read scope integer i
+ghost_breaches known spot scope (t.Unfocus place base i) = read_name scope x.array place base ++ read scope integer i
+ghost_breaches known spot scope (t.Assert place label e hint) = read scope (x.sorted sort.Bool) e
+ghost_breaches known spot scope _ = []
+
+-- the same, where it isn't about cells
+abbrev pub other_breaches : Known → Spot → Option Sort → Scope → Stmt → List Breach
+other_breaches known spot last scope (t.NewLock place name i) = real_breaches spot place ++ instance_breaches mode.Ghost known scope i
+other_breaches known spot last scope (t.Acquire place lock) = real_breaches spot place ++ real_name scope (x.sorted sort.Lock) place lock
+other_breaches known spot last scope (t.Release place lock) = real_breaches spot place ++ real_name scope (x.sorted sort.Lock) place lock
+other_breaches known spot last scope (t.FreeLock place lock) = real_breaches spot place ++ real_name scope (x.sorted sort.Lock) place lock
+other_breaches known spot last scope (t.Read place name) = real_breaches spot place
+other_breaches known spot last scope (t.Print place e) = real_breaches spot place ++ real scope integer e
+other_breaches known spot last scope (t.Call place name f args) = call_breaches spot scope place (is_some name) (known.funs f) args
+other_breaches known spot last scope (t.Par place f args g others) =
+    real_breaches spot place ++ forked_breaches scope place (known.funs f) args ++ forked_breaches scope place (known.funs g) others
+other_breaches known spot last scope (t.LetMut place name e) = real_breaches spot place ++ real scope x.scalar e
+other_breaches known spot last scope (t.Return place e) = real_breaches spot place ++ return_breaches scope place last e
+other_breaches known spot last scope s = ghost_breaches known spot scope s
+
 -- breaches of a statement without a block and without a proposition
 abbrev pub plain_breaches : Known → Spot → Option Sort → Scope → Stmt → List Breach
 plain_breaches known spot last scope (t.Let place name e) = real_breaches spot place ++ real scope x.value e
@@ -371,33 +405,7 @@ plain_breaches known spot last scope (t.AtomicWrite place c e) =
     action_breaches spot place ++ real_name scope (x.sorted sort.Atomic) place c ++ real scope integer e
 plain_breaches known spot last scope (t.Cas place name c old new) =
     action_breaches spot place ++ real_name scope (x.sorted sort.Atomic) place c ++ real scope integer old ++ real scope integer new
-plain_breaches known spot last scope (t.NewLock place name i) = real_breaches spot place ++ instance_breaches mode.Ghost known scope i
-plain_breaches known spot last scope (t.Acquire place lock) = real_breaches spot place ++ real_name scope (x.sorted sort.Lock) place lock
-plain_breaches known spot last scope (t.Release place lock) = real_breaches spot place ++ real_name scope (x.sorted sort.Lock) place lock
-plain_breaches known spot last scope (t.FreeLock place lock) = real_breaches spot place ++ real_name scope (x.sorted sort.Lock) place lock
-plain_breaches known spot last scope (t.Read place name) = real_breaches spot place
-plain_breaches known spot last scope (t.Print place e) = real_breaches spot place ++ real scope integer e
-plain_breaches known spot last scope (t.Call place name f args) = call_breaches spot scope place (is_some name) (known.funs f) args
-plain_breaches known spot last scope (t.Par place f args g others) =
-    real_breaches spot place ++ forked_breaches scope place (known.funs f) args ++ forked_breaches scope place (known.funs g) others
-plain_breaches known spot last scope (t.LetMut place name e) = real_breaches spot place ++ real scope x.scalar e
-plain_breaches known spot last scope (t.Return place e) = real_breaches spot place ++ return_breaches scope place last e
-plain_breaches known spot last scope (t.GLet place name e) = ghost scope x.value e
-plain_breaches known spot last scope (t.GAlloc place name e) = ghost scope integer e
-plain_breaches known spot last scope (t.NewInv place name i) =
-    outside_breaches spot place ++ instance_breaches mode.Ghost known scope i
-plain_breaches known spot last scope (t.Fold place i) = instance_breaches mode.Read known scope i
-plain_breaches known spot last scope (t.Unfold place i) = instance_breaches mode.Read known scope i
-plain_breaches known spot last scope (t.Share place key) = key_breaches known scope place key
-plain_breaches known spot last scope (t.Gather place key) = key_breaches known scope place key
-plain_breaches known spot last scope (t.Split place a lo hi m) =
-    range_breaches scope a lo hi ++ read scope integer m
-plain_breaches known spot last scope (t.Join place a lo m hi) =
-    range_breaches scope a lo m ++ read scope integer hi
-plain_breaches known spot last scope (t.Focus place base i) = read_name scope x.array place base ++ read scope integer i
-plain_breaches known spot last scope (t.Unfocus place base i) = read_name scope x.array place base ++ read scope integer i
-plain_breaches known spot last scope (t.Assert place label e hint) = read scope (x.sorted sort.Bool) e
-plain_breaches known spot last scope _ = []
+plain_breaches known spot last scope s = other_breaches known spot last scope s
 
 abbrev mutual
   -- breaches of a statement; the sort is that of the result, where a `return` may stand

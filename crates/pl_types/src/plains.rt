@@ -29,8 +29,77 @@ use pl_syntax::{CellExpr, Class, Stmt};
 
 const LOCK: Want<'static> = Want::Sorted(Kind::Lock);
 
-/// The first breach of such a statement.
+/// The first breach of such a statement of ghost code.
 #[tactic(auto, using(crate::proofs::Leasts::least_append))]
+fn look_ghosts<'a>(
+    s: &'a Stmt,
+    tables: &Tables<'a>,
+    spot: Spot,
+    scope: &Scope<'a>,
+) -> Option<Breach>
+    ensures { result ≡ least (spec.ghost_breaches (known_of tables.now) spot scope.now (plain_stmt s.now)) }
+{
+    match s {
+        Stmt::GLet(_, _, e) => evaluated(scope, Want::Value, e),
+        Stmt::GAlloc(_, _, e) => evaluated(scope, INTEGER, e),
+        Stmt::NewInv(pos, _, i) => earlier(
+            spot.outside(*pos),
+            look_instance(Mode::Ghost, tables, scope, i),
+        ),
+        Stmt::Fold(_, i) => look_instance(Mode::Read, tables, scope, i),
+        Stmt::Unfold(_, i) => look_instance(Mode::Read, tables, scope, i),
+        Stmt::Share(pos, key) => look_key(tables, scope, *pos, key),
+        Stmt::Gather(pos, key) => look_key(tables, scope, *pos, key),
+        Stmt::Split(_, a, lo, hi, m) => look_cut(scope, a, lo, hi, m),
+        Stmt::Join(_, a, lo, m, hi) => look_cut(scope, a, lo, m, hi),
+        Stmt::Focus(pos, a, i) => look_element(scope, *pos, a, i),
+        Stmt::Unfocus(pos, a, i) => look_element(scope, *pos, a, i),
+        Stmt::Assert(_, _, e, _) => read(scope, TRUTH, e),
+        _ => None,
+    }
+}
+
+/// The same of one that isn't about cells.
+fn look_real<'a>(
+    s: &'a Stmt,
+    tables: &Tables<'a>,
+    spot: Spot,
+    last: Option<Kind<'a>>,
+    scope: &Scope<'a>,
+) -> Option<Breach>
+    ensures { result ≡ least (spec.other_breaches (known_of tables.now) spot (held.sorts last.entry) scope.now (plain_stmt s.now)) }
+{
+    match s {
+        Stmt::NewLock(pos, _, i) => look_lock(tables, spot, scope, *pos, i),
+        Stmt::Acquire(pos, l) => look_use(spot, scope, LOCK, *pos, l),
+        Stmt::Release(pos, l) => look_use(spot, scope, LOCK, *pos, l),
+        Stmt::FreeLock(pos, l) => look_use(spot, scope, LOCK, *pos, l),
+        Stmt::Read(pos, _) => spot.real(*pos),
+        Stmt::Print(pos, e) => look_value(spot, scope, INTEGER, *pos, e),
+        Stmt::Call(pos, x, f, args) => look_call(
+            spot,
+            scope,
+            *pos,
+            x.is_some(),
+            tables.function(f),
+            args.as_slice(),
+        ),
+        Stmt::Par(pos, f, args, g, others) => look_par(
+            spot,
+            scope,
+            *pos,
+            tables.function(f),
+            args.as_slice(),
+            tables.function(g),
+            others.as_slice(),
+        ),
+        Stmt::LetMut(pos, _, e) => look_value(spot, scope, Want::Scalar, *pos, e),
+        Stmt::Return(pos, e) => look_result(spot, scope, *pos, last, e),
+        _ => look_ghosts(s, tables, spot, scope),
+    }
+}
+
+/// The first breach of such a statement.
 pub(crate) fn look_plain<'a>(
     s: &'a Stmt,
     tables: &Tables<'a>,
@@ -67,48 +136,7 @@ pub(crate) fn look_plain<'a>(
         Stmt::AtomicRead(pos, _, c) => look_atomic(spot, scope, *pos, c),
         Stmt::AtomicWrite(pos, c, e) => look_write(spot, scope, *pos, c, e),
         Stmt::Cas(pos, _, c, old, new) => look_cas(spot, scope, *pos, c, old, new),
-        Stmt::NewLock(pos, _, i) => look_lock(tables, spot, scope, *pos, i),
-        Stmt::Acquire(pos, l) => look_use(spot, scope, LOCK, *pos, l),
-        Stmt::Release(pos, l) => look_use(spot, scope, LOCK, *pos, l),
-        Stmt::FreeLock(pos, l) => look_use(spot, scope, LOCK, *pos, l),
-        Stmt::Read(pos, _) => spot.real(*pos),
-        Stmt::Print(pos, e) => look_value(spot, scope, INTEGER, *pos, e),
-        Stmt::Call(pos, x, f, args) => look_call(
-            spot,
-            scope,
-            *pos,
-            x.is_some(),
-            tables.function(f),
-            args.as_slice(),
-        ),
-        Stmt::Par(pos, f, args, g, others) => look_par(
-            spot,
-            scope,
-            *pos,
-            tables.function(f),
-            args.as_slice(),
-            tables.function(g),
-            others.as_slice(),
-        ),
-        Stmt::LetMut(pos, _, e) => look_value(spot, scope, Want::Scalar, *pos, e),
-        Stmt::Return(pos, e) => look_result(spot, scope, *pos, last, e),
-        Stmt::GLet(_, _, e) => evaluated(scope, Want::Value, e),
-        Stmt::GAlloc(_, _, e) => evaluated(scope, INTEGER, e),
-        Stmt::NewInv(pos, _, i) => earlier(
-            spot.outside(*pos),
-            look_instance(Mode::Ghost, tables, scope, i),
-        ),
-        Stmt::Fold(_, i) => look_instance(Mode::Read, tables, scope, i),
-        Stmt::Unfold(_, i) => look_instance(Mode::Read, tables, scope, i),
-        Stmt::Share(pos, key) => look_key(tables, scope, *pos, key),
-        Stmt::Gather(pos, key) => look_key(tables, scope, *pos, key),
-        Stmt::Split(_, a, lo, hi, m) => look_cut(scope, a, lo, hi, m),
-        Stmt::Join(_, a, lo, m, hi) => look_cut(scope, a, lo, m, hi),
-        Stmt::Focus(pos, a, i) => look_element(scope, *pos, a, i),
-        Stmt::Unfocus(pos, a, i) => look_element(scope, *pos, a, i),
-        Stmt::Assert(_, _, e, _) => read(scope, TRUTH, e),
-        Stmt::If(..) | Stmt::While(..) | Stmt::With(..) => None,
-        Stmt::Rewrite(..) | Stmt::WithAssert(..) | Stmt::Drop(..) => None,
+        _ => look_real(s, tables, spot, last, scope),
     }
 }
 

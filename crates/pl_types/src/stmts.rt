@@ -180,16 +180,10 @@ fn look_stmt<'a>(
         Stmt::If(_, e, first, second, after) => {
             let one = look_arm(first, alloc, tables, spot.under(), scope)?;
             match second {
-                None => look_choice(
-                    e,
-                    one,
-                    not_executed(None),
-                    after.as_ref(),
-                    alloc,
-                    tables,
-                    spot,
-                    scope,
-                ),
+                None => {
+                    let two = not_executed(None);
+                    look_choice(e, one, two, after.as_ref(), alloc, tables, spot, scope)
+                }
                 Some(block) => {
                     let two = look_arm(block, alloc, tables, spot.under(), scope)?;
                     look_choice(e, one, two, after.as_ref(), alloc, tables, spot, scope)

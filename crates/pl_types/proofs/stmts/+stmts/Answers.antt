@@ -55,9 +55,9 @@ look_stmt-returns-in-None-clause-found t c =
     ∙ ap (λ o. tree.If x.field-0 (plain_expr x.e) (plain_block x.first) (otherwise (option_map plain_block o)) (option_map plain_prop x.after)) c.in-None.is in
     if_ok_to _ _ c.look_choice.result (λ r h.
     choice_found known spot c.under.result (under spot) scope scope now x.field-0 (plain_expr x.e) (plain_block x.first) second (option_map plain_prop x.after) last
-    one.one.found c.not_executed.result.found r.found one.one.is_ghost c.not_executed.result.is_ghost
-    c.under.ensures refl refl one.ensures.scope one.ensures.found c.not_executed.ensures.found one.ensures.ghosts c.not_executed.ensures.ghosts
-    (h ∙ ap (λ q. earlier (earlier (earlier (least (wanted (condition spot (one.one.is_ghost && c.not_executed.result.is_ghost)) now (sorted sort.Bool) (plain_expr x.e))) one.one.found) c.not_executed.result.found) (least (after_breaches known now q))) after)
+    one.one.found c.not_executed-two.result.found r.found one.one.is_ghost c.not_executed-two.result.is_ghost
+    c.under.ensures refl refl one.ensures.scope one.ensures.found c.not_executed-two.ensures.found one.ensures.ghosts c.not_executed-two.ensures.ghosts
+    (h ∙ ap (λ q. earlier (earlier (earlier (least (wanted (condition spot (one.one.is_ghost && c.not_executed-two.result.is_ghost)) now (sorted sort.Bool) (plain_expr x.e))) one.one.found) c.not_executed-two.result.found) (least (after_breaches known now q))) after)
     ∙ ap (λ s. least (stmt_breaches known spot last scope s)) (sym whole)) c.look_choice.ensures.found
 
 pub look_stmt-returns-in_ok-two-in-Some-clause-found : goal.look_stmt-returns-in_ok-two-in-Some-clause-found
