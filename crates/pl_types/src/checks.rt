@@ -51,6 +51,7 @@ impl Typed {
         Typed { program }
     }
 
+    /// The program, which keeps all rules.
     pub fn program(&self) -> &Program
         ensures same { result.now ≡ self.now }
         ensures typed { typing.IsTyped (plain_program self.now) }

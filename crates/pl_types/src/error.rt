@@ -29,6 +29,7 @@ pub enum TypeError {
     /// No real function `main` without parameters, result and `requires`.
     #[error("no main")]
     NoMain,
+    /// Memory ran out.
     #[error("out of memory")]
     Memory,
 }

@@ -1,0 +1,5 @@
+mod Another
+mod Declared
+mod Arms
+mod Refusing
+mod Least
