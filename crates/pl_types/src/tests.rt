@@ -12,7 +12,7 @@ fn place(col: u32) -> Pos {
     Pos {
         line: 1,
         col,
-        byte: col - 1,
+        byte: col.saturating_sub(1),
     }
 }
 
