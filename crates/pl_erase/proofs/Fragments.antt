@@ -1,4 +1,4 @@
--- The C program of a typed program is one of the fragment.
+-- The C program of a straight program is one of the fragment.
 use Rattle.std.proofs.Common.{◌≡◌, ℕ, suc, ◌==◌, ◌&&◌, max, pos, negsuc, Bool, true, false, if◌then◌else◌, Option, Some, None, List, [], ◌∷◌, refl, sym, ap, ◌∙◌, subst, codes, arith, rules}
 use Rattle.std.specs.Prelude.{option_and_then}
 use Rattle.std.specs.List.{IsDistinct}
@@ -15,7 +15,7 @@ use Rattle.c_syntax.specs.Fragment.{IsFragment}
 use Rattle.pl_syntax.specs.declared.expr.Sort.{Sort}
 use Rattle.pl_syntax.specs.declared.expr.Sort.TheVariants.{I64, RefI64}
 use Rattle.pl_syntax.specs.Tree.{Name, Expr, Int, Var, Whole, At, Field, Stmt, Load, Alloc, Free, Print, FunDecl, Program, list_of}
-use Rattle.pl_syntax.specs.Sorts.{Scope, sort_of, IsInteger, AreSorted, IsMain, IsTyped}
+use Rattle.pl_syntax.specs.Straight.{Scope, sort_of, IsInteger, AreSorted, IsMain, IsStraight}
 use Rattle.pl_erase.specs.Emitted.{Numbers, no_numbers, number, local, local_of, emitted_expr, emitted_all, emitted_fun, emitted, emitted_decls}
 
 -- ---- forms
@@ -130,6 +130,6 @@ main_fragment f m = record {
   };
 }
 
--- the C program of a typed program is one of the fragment
-pub fragment : (p : Program) → IsTyped p → IsFragment (emitted p)
+-- the C program of a straight program is one of the fragment
+pub fragment : (p : Program) → IsStraight p → IsFragment (emitted p)
 fragment p t = subst (λ funs. IsFragment (record { structs = []; funs = funs })) (sym (ap emitted_decls t.1)) (main_fragment t.0 t.2)

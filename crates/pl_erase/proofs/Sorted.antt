@@ -6,7 +6,7 @@ use Rattle.pl_syntax.specs.declared.stmt.Stmt as code
 use Rattle.pl_syntax.specs.declared.program.FunDecl as fun
 use Rattle.pl_syntax.specs.Plain.{plain_stmt, plain_fun}
 use Rattle.pl_syntax.specs.Tree.{Expr, Int, Var, Whole, At, Field, Stmt, Load, Alloc, Free, Print}
-use Rattle.pl_syntax.specs.Sorts.{Scope, IsInteger, AreSorted, IsMain}
+use Rattle.pl_syntax.specs.Straight.{Scope, IsInteger, AreSorted, IsMain}
 use Rattle.pl_syntax.proofs.TreeLaws.{block_list}
 use Rattle.pl_erase.specs.Built.{IsBuiltExpr, IsBuilt}
 

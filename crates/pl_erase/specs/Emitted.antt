@@ -27,7 +27,7 @@ local x n = record { name = x; number = n }
 abbrev pub local_of : Numbers → Name → Local
 local_of numbers x = local x (numbers x)
 
--- a literal is the literal of C; the other forms aren't built yet, and no typed program has them
+-- a literal is the literal of C; the other forms aren't built yet, and no straight program has them
 abbrev pub emitted_expr : Numbers → Expr → c.Expr
 emitted_expr numbers (Int place n) = c.Int n
 emitted_expr numbers (Var place x) = c.Var (local_of numbers x)

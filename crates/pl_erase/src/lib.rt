@@ -1,4 +1,4 @@
-//! Erasure: from a typed program to its program of C.
+//! Erasure: from a straight program to its program of C.
 #![tactic(auto)]
 
 mod rows;

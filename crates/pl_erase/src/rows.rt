@@ -2,7 +2,7 @@
 ghost use Rattle.std.specs.Prelude.{◌≡◌, IfOk, map, suc};
 ghost use Rattle.std.specs.List.{All};
 ghost use Rattle.pl_syntax.specs.Plain as source;
-ghost use Rattle.pl_syntax.specs.Sorts.{IsMain};
+ghost use Rattle.pl_syntax.specs.Straight.{IsMain};
 ghost use Rattle.c_syntax.specs.Plain as c;
 ghost use Rattle.c_syntax.specs.Fragment.{IsFragment};
 ghost use Rattle.pl_erase.specs.Emitted.{emitted, emitted_all, emitted_expr, emitted_fun, no_numbers, local};
@@ -10,7 +10,7 @@ ghost use Rattle.pl_erase.specs.Built.{IsBuiltExpr, IsBuilt, HasRow};
 
 use c_syntax::{CCell, CExpr, CFun, CProgram, CStmt, CType, Local};
 use pl_base::{Items, Memory, Name};
-use pl_syntax::{CellExpr, Decl, Expr, FunDecl, Stmt, Typed};
+use pl_syntax::{CellExpr, Decl, Expr, FunDecl, Stmt, Straight};
 use std::alloc::Global;
 use std::collections::HashMap;
 
@@ -138,13 +138,13 @@ fn function(alloc: Global, fun: &FunDecl) -> Result<CFun, Memory>
     })
 }
 
-/// The C program of a typed program.
+/// The C program of a straight program.
 #[tactic(auto, using(crate::proofs::Fragments::fragment))]
-pub fn erase(alloc: Global, typed: &Typed) -> Result<CProgram, Memory>
-    ensures program { IfOk result (λ out. c.plain_program out ≡ emitted (source.plain_program typed.now)) }
+pub fn erase(alloc: Global, straight: &Straight) -> Result<CProgram, Memory>
+    ensures program { IfOk result (λ out. c.plain_program out ≡ emitted (source.plain_program straight.now)) }
     ensures fragment { IfOk result (λ out. IsFragment (c.plain_program out)) }
 {
-    let [Decl::Fun(main)] = typed.program().decls.as_slice() else {
+    let [Decl::Fun(main)] = straight.program().decls.as_slice() else {
         unreachable!()
     };
     let mut funs = Vec::new(alloc);

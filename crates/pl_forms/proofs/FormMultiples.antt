@@ -11,7 +11,7 @@ use Rattle.pl_forms.specs.declared.form.TermError.TheVariants.{TooLarge}
 use Rattle.pl_forms.specs.Forms.{Answers, IsForm, Ascends, Small, is_zero, value, parts_value, scaled, limited_part, limited_constant, all_limited, after_part, with_constant}
 use Rattle.pl_forms.proofs.Products.{mul-add, mul-assoc}
 
-part_is : (k : ℤ) (p q : Part) → limited_part k p ≡ Ok q → (q.coeff ≡ k *ℤ p.coeff) × (q.atom ≡ p.atom) × (unsigned_abs q.coeff ≤ 2 ^ 40)
+pub part_is : (k : ℤ) (p q : Part) → limited_part k p ≡ Ok q → (q.coeff ≡ k *ℤ p.coeff) × (q.atom ≡ p.atom) × (unsigned_abs q.coeff ≤ 2 ^ 40)
 part_is k p q h =
     (elim (nat_lt (2 ^ 40) (unsigned_abs (k *ℤ p.coeff))) as (λ s. nat_lt (2 ^ 40) (unsigned_abs (k *ℤ p.coeff)) ≡ s → cond s (Err (TooLarge (min (unsigned_abs (k *ℤ p.coeff)) (2 ^ 127 - 1)))) (Ok (record { coeff = k *ℤ p.coeff; atom = p.atom })) ≡ Ok q → (q.coeff ≡ k *ℤ p.coeff) × (q.atom ≡ p.atom) × (unsigned_abs q.coeff ≤ 2 ^ 40))
     [ true ↦ λ lo e. absurd cc | false ↦ λ lo e. let a : k *ℤ p.coeff ≡ q.coeff = cc in (sym a, cc, rw (← a) (grind (arith, nat_tests))) ])
@@ -25,7 +25,7 @@ constant_is z c h =
     refl
     h
 
-after_is : (r : Result Part TermError) (rest : Result (List Part) TermError) (qs : List Part) → after_part r rest ≡ Ok qs → (q : Part) × (more : List Part) × (r ≡ Ok q) × (rest ≡ Ok more) × (qs ≡ q ∷ more)
+pub after_is : (r : Result Part TermError) (rest : Result (List Part) TermError) (qs : List Part) → after_part r rest ≡ Ok qs → (q : Part) × (more : List Part) × (r ≡ Ok q) × (rest ≡ Ok more) × (qs ≡ q ∷ more)
 after_is (Err e) rest qs h = absurd cc
 after_is (Ok q) (Err e) qs h = absurd cc
 after_is (Ok q) (Ok more) qs h = (q, more, refl, refl, cc)
@@ -55,7 +55,7 @@ all_is v k low (p ∷ ps) qs z a h =
       All-cons (λ p. unsigned_abs p.coeff ≤ 2 ^ 40) m.0 m.1 q.2 r.2,
     )
 
-with_is : (r : Result (List Part) TermError) (c : Result ℤ TermError) (f : Form) → with_constant r c ≡ Ok f → (r ≡ Ok f.parts) × (c ≡ Ok f.constant)
+pub with_is : (r : Result (List Part) TermError) (c : Result ℤ TermError) (f : Form) → with_constant r c ≡ Ok f → (r ≡ Ok f.parts) × (c ≡ Ok f.constant)
 with_is (Err e) c f h = absurd cc
 with_is (Ok ps) (Err e) f h = absurd cc
 with_is (Ok ps) (Ok c) f h = let e : (record { parts = ps; constant = c }) ≡ f = cc in (ap (λ g. Ok (g.parts)) e, ap (λ g. Ok (g.constant)) e)

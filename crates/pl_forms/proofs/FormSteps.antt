@@ -10,7 +10,7 @@ use Rattle.pl_forms.specs.declared.form.Form.{Form}
 use Rattle.pl_forms.specs.declared.form.TermError.{TermError}
 use Rattle.pl_forms.specs.declared.form.TermError.TheVariants.{TooLarge, Memory}
 use Rattle.pl_forms.specs.Forms.{merge, put_part, is_zero, excess, limited_by, Answers, Ascends, Small, IsForm, value, parts_value}
-use Rattle.pl_forms.specs.Steps.{times_part, plus, Put, Merged}
+use Rattle.pl_forms.specs.Steps.{times_part, plus, difference, Put, Merged}
 use Rattle.pl_forms.proofs.Products.{mul-add, mul-assoc}
 use Rattle.pl_forms.proofs.FormMerging.{at, blank, merge_equal, merge-nil, answers_same}
 use Rattle.pl_forms.proofs.FormSums.{value-merge}
@@ -105,6 +105,16 @@ plus_form f g k (Ok s) n p q h =
       bounded = rw o.2 o.3;
     }
 
+pub difference_form : (f g : Form) (k : ℤ) (r : Result Form TermError) → IsForm f → IsForm g → Answers r (difference f g k) → IfOk r (λ s. IsForm s)
+difference_form f g k (Err e) p q h = tt
+difference_form f g k (Ok s) p q h =
+    let o = limited_ok (excess (merge f.parts (map (times_part (negsuc 0)) g.parts))) (merge f.parts (map (times_part (negsuc 0)) g.parts)) ((f.constant +ℤ (negsuc 0 *ℤ g.constant)) +ℤ k) s h in
+    record {
+      ascends = rw o.1 (ascends-merge 0 f.parts (map (times_part (negsuc 0)) g.parts) p.ascends (ascends_times (negsuc 0) 0 g.parts refl q.ascends));
+      small = rw o.1 (small_from _ o.0);
+      bounded = rw o.2 o.3;
+    }
+
 pub product_size : (a b : ℤ) (m n : ℕ) → unsigned_abs a ≤ m → unsigned_abs b ≤ n → unsigned_abs (a *ℤ b) ≤ m * n
 product_size a b m n h k = rw (unsigned_abs-mul a b) (mul-le-mul h k)
 
@@ -127,6 +137,10 @@ all_refused Memory k ps out now before after i hi w p = tt
 pub plus_made : (f g : Form) (k z : ℤ) (ps : List Part) (r : Result Form TermError) → excess (merge f.parts (map (times_part k) g.parts)) ≡ None → ps ≡ merge f.parts (map (times_part k) g.parts) → z ≡ f.constant +ℤ (k *ℤ g.constant) → r ≡ limited_by None ps z → Answers r (plus f k g)
 plus_made f g k z ps r e p q h =
     answers_same r (plus f k g) (h ∙ ap (λ l. limited_by None l z) p ∙ ap (limited_by None (merge f.parts (map (times_part k) g.parts))) q ∙ ap (λ o. limited_by o (merge f.parts (map (times_part k) g.parts)) (f.constant +ℤ (k *ℤ g.constant))) (sym e))
+
+pub difference_made : (f g : Form) (k z : ℤ) (ps : List Part) (r : Result Form TermError) → excess (merge f.parts (map (times_part (negsuc 0)) g.parts)) ≡ None → ps ≡ merge f.parts (map (times_part (negsuc 0)) g.parts) → z ≡ (f.constant +ℤ (negsuc 0 *ℤ g.constant)) +ℤ k → r ≡ limited_by None ps z → Answers r (difference f g k)
+difference_made f g k z ps r e p q h =
+    answers_same r (difference f g k) (h ∙ ap (λ l. limited_by None l z) p ∙ ap (limited_by None (merge f.parts (map (times_part (negsuc 0)) g.parts))) q ∙ ap (λ o. limited_by o (merge f.parts (map (times_part (negsuc 0)) g.parts)) ((f.constant +ℤ (negsuc 0 *ℤ g.constant)) +ℤ k)) (sym e))
 
 pub plus_stops : (e : TermError) (f g : Form) (k : ℤ) → Merged (Err e) (merge f.parts (map (times_part k) g.parts)) → Answers (Err e) (plus f k g)
 plus_stops (TooLarge n) f g k h = ap (λ o. limited_by o (merge f.parts (map (times_part k) g.parts)) (f.constant +ℤ (k *ℤ g.constant))) h

@@ -12,3 +12,4 @@ pub mod SolvingLaws
 pub mod NameLaws
 pub mod Tightness
 pub mod TermLaws
+pub mod AssumingLaws

@@ -12,7 +12,7 @@ use Rattle.pl_forms.specs.Places.{Within, AllSolvedWithin}
 use Rattle.pl_forms.proofs.FormLimits.{limited_ok}
 use Rattle.pl_forms.proofs.Reducing.{then_is}
 
-abbrev Below : ℕ → List Part → Type 0
+abbrev pub Below : ℕ → List Part → Type 0
 Below n ps = All (λ p. p.atom + 1 < n) ps
 
 below_put : (n a : ℕ) (c : ℤ) (rest : List Part) → a + 1 < n → Below n rest → Below n (put_part a c rest)
@@ -32,7 +32,7 @@ below_into n a more ih (b ∷ bs) h t =
     (below_put n a.atom (a.coeff +ℤ b.coeff) (merge more bs) h (ih bs rest))
     (All-cons (λ p. p.atom + 1 < n) b (merge_into a (λ rest. merge more rest) bs) (t 0 b (omega arith)) (below_into n a more ih bs h rest))
 
-below_merge : (n : ℕ) (xs ys : List Part) → Below n xs → Below n ys → Below n (merge xs ys)
+pub below_merge : (n : ℕ) (xs ys : List Part) → Below n xs → Below n ys → Below n (merge xs ys)
 below_merge n [] ys s t = t
 below_merge n (a ∷ more) ys s t = below_into n a more (λ zs q. below_merge n more zs (λ k z lt. s (suc k) z (omega arith)) q) ys (s 0 a (omega arith)) t
 

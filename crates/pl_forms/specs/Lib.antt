@@ -7,3 +7,5 @@ pub mod Places
 pub mod Solving
 pub mod Terms
 pub mod Tightening
+pub mod Goals
+pub mod Assuming

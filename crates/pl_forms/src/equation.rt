@@ -54,7 +54,7 @@ fn reduce_all(alloc: Global, solutions: &[Solution], form: &Form) -> Result<Form
 }
 
 // The form without the atom of a solved equation.
-fn remove_one(alloc: Global, form: Form, solution: &Solution) -> Result<Form, TermError>
+pub(crate) fn remove_one(alloc: Global, form: Form, solution: &Solution) -> Result<Form, TermError>
     requires form { IsForm form }
     requires solution { IsForm solution.now.form }
     ensures exact { Answers result (remove solution.now form) }
@@ -73,7 +73,7 @@ fn remove_one(alloc: Global, form: Form, solution: &Solution) -> Result<Form, Te
 }
 
 // The multiple of an atom; 0 where no part has it.
-fn multiple_of(parts: &[Part], atom: u32) -> i64
+pub(crate) fn multiple_of(parts: &[Part], atom: u32) -> i64
     ensures { result ≡ coeff_of atom parts.now }
 {
     for part in parts {
@@ -147,7 +147,7 @@ fn push_removal(terms: &mut Vec<EqTerm>, form: &Form, solution: &Solution) -> Re
     Ok(())
 }
 
-fn removing_small(minus: bool, coeff: i64) -> i64
+pub(crate) fn removing_small(minus: bool, coeff: i64) -> i64
     requires { unsigned_abs coeff ≤ 2 ^ 40 }
     ensures { result ≡ opposite minus coeff }
 {

@@ -1,5 +1,8 @@
+ghost use Rattle.std.specs.Prelude.{◌≡◌, IfOk, map, take};
+
 use crate::form::Form;
-use pl_base::{Items, Name};
+use pl_base::{Items, Memory, Name};
+use std::alloc::Global;
 
 /// What is said of a form.
 #[derive(Clone, Copy, Debug, PartialEq, Eq)]
@@ -25,6 +28,59 @@ pub struct Fact {
 #[derive(Debug, Drop)]
 pub struct Facts {
     pub list: Items<Fact>,
+}
+
+impl Fact {
+    pub fn copy(&self, alloc: Global) -> Result<Fact, Memory>
+        ensures { IfOk result (λ f. f ≡ self.now) }
+    {
+        Ok(Fact {
+            label: copy_label(alloc, &self.label)?,
+            guard: copy_guard(alloc, &self.guard)?,
+            shape: self.shape,
+            form: self.form.copy(alloc)?,
+        })
+    }
+}
+
+impl Facts {
+    pub fn copy(&self, alloc: Global) -> Result<Facts, Memory>
+        ensures { IfOk result (λ f. f.list ≡ self.now.list) }
+    {
+        let list = copy_facts(alloc, self.list.as_slice())?;
+        Ok(Facts {
+            list: Items::of(list),
+        })
+    }
+}
+
+fn copy_facts(alloc: Global, facts: &[Fact]) -> Result<Vec<Fact>, Memory>
+    ensures { IfOk result (λ v. v.items ≡ facts.now) }
+{
+    let mut out = Vec::new(alloc);
+    for fact in facts {
+        let copy = fact.copy(alloc)?;
+        out.push(copy)?;
+    }
+    Ok(out)
+}
+
+pub(crate) fn copy_label(alloc: Global, label: &Option<Name>) -> Result<Option<Name>, Memory>
+    ensures { IfOk result (λ l. l ≡ label.now) }
+{
+    match label {
+        None => Ok(None),
+        Some(name) => Ok(Some(Name::of(alloc, name.text())?)),
+    }
+}
+
+pub(crate) fn copy_guard(alloc: Global, guard: &Option<Form>) -> Result<Option<Form>, Memory>
+    ensures { IfOk result (λ g. g ≡ guard.now) }
+{
+    match guard {
+        None => Ok(None),
+        Some(form) => Ok(Some(form.copy(alloc)?)),
+    }
 }
 
 /// A multiple of the solved form of an equation, which is named by its place in the list of facts.

@@ -1,6 +1,6 @@
 ghost use Rattle.std.specs.Prelude.{◌≡◌, ◌≢◌, ℕ, ℤ, pos, ◌+ℤ◌, ◌*ℤ◌, ◌≤◌, ◌^◌, [], ◌∷◌, map, unsigned_abs, IfOk, None};
 ghost use Rattle.pl_forms.specs.Forms.{IsForm, Small, merge, put_part, value, Answers, limited_by};
-ghost use Rattle.pl_forms.specs.Steps.{times_part, plus, Put, Merged};
+ghost use Rattle.pl_forms.specs.Steps.{times_part, plus, difference, Put, Merged};
 
 use crate::form::{Form, LARGEST_CONSTANT, LARGEST_MULTIPLE, LARGEST_NAMED, Part, TermError};
 use pl_base::Items;
@@ -24,6 +24,33 @@ impl Form {
     {
         sum_of(alloc, one, times, other)
     }
+
+    /// A form less another, and a number more. Only the whole is held to the limits.
+    pub fn difference(
+        alloc: Global,
+        one: &Form,
+        other: &Form,
+        more: i128,
+    ) -> Result<Form, TermError>
+        requires one { IsForm one.now }
+        requires other { IsForm other.now }
+        requires more { unsigned_abs more ≤ 1 }
+        ensures exact { Answers result (difference one.now other.now more) }
+        ensures form { IfOk result (λ f. IsForm f) }
+    {
+        difference_of(alloc, one, other, more)
+    }
+}
+
+fn difference_of(alloc: Global, one: &Form, other: &Form, more: i128) -> Result<Form, TermError>
+    requires one { IsForm one.now }
+    requires other { IsForm other.now }
+    requires more { unsigned_abs more ≤ 1 }
+    ensures { Answers result (difference one.now other.now more) }
+{
+    let parts = merged_with(alloc, one.parts.as_slice(), -1, other.parts.as_slice())?;
+    let negated = constant_product(-1, other.constant);
+    with_constant(parts, constant_total(one.constant, negated, more))
 }
 
 fn sum_of(alloc: Global, one: &Form, times: i128, other: &Form) -> Result<Form, TermError>
@@ -161,6 +188,15 @@ fn constant_sum(constant: i128, more: i128) -> i128
     ensures { result ≡ constant +ℤ more }
 {
     constant + more
+}
+
+fn constant_total(constant: i128, negated: i128, more: i128) -> i128
+    requires constant { unsigned_abs constant ≤ 2 ^ 80 }
+    requires negated { unsigned_abs negated ≤ 2 ^ 120 }
+    requires more { unsigned_abs more ≤ 1 }
+    ensures { result ≡ (constant +ℤ negated) +ℤ more }
+{
+    constant + negated + more
 }
 
 // The form with these parts, unless its constant passes the limit.

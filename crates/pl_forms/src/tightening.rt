@@ -17,8 +17,8 @@ pub fn tighten_form(alloc: Global, form: &Form) -> Result<Form, Memory>
     tighten_by(alloc, form, divisor)
 }
 
-// The greatest common divisor of the multiples.
-fn common_divisor(parts: &[Part]) -> u128
+/// The greatest common divisor of the multiples; 0 where there are no parts.
+pub fn common_divisor(parts: &[Part]) -> u128
     ensures { result ≡ common 0 parts.now }
 {
     let mut g = 0;

@@ -2,7 +2,7 @@
 use Rattle.std.proofs.Common.{◌≡◌, ◌≢◌, ◌⊎◌, ℕ, zero, suc, ℤ, Option, Some, None, List, [], ◌∷◌, ◌++◌, length, refl, sym, ap, ◌∙◌, subst, slice_get, set, inl, inr}
 use Rattle.pl_syntax.specs.Tree.{Stmt, FunDecl, list_of}
 use Rattle.pl_syntax.specs.Values.{no_vars}
-use Rattle.pl_syntax.specs.Sorts.{Scope, AreSorted, IsMain}
+use Rattle.pl_syntax.specs.Straight.{Scope, AreSorted, IsMain}
 use Rattle.pl_syntax.specs.Resource.{Resource, Adds, IsEmpty, nothing}
 use Rattle.pl_syntax.proofs.ResourceLaws.{adds_nothing, adds_nothing', nothing_empty}
 use Rattle.pl_terms.specs.Terms.{Values, AllHold}

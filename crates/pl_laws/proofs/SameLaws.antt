@@ -22,7 +22,7 @@ use Rattle.c_meaning.specs.Tree as stmt
 use Rattle.c_meaning.specs.Steps as steps
 use Rattle.c_meaning.specs.Steps.{Step, Runs, Replay, race_of, race_at}
 use Rattle.pl_syntax.specs.Tree.{Stmt, Whole, Load, Alloc, Free, Print, FunDecl, list_of}
-use Rattle.pl_syntax.specs.Sorts.{IsMain}
+use Rattle.pl_syntax.specs.Straight.{IsMain}
 use Rattle.pl_syntax.specs.Values.{no_vars}
 use Rattle.pl_deriv.specs.Derivations.{Derives}
 use Rattle.pl_source.specs.Machine.{Event, AllocEvent, LoadEvent, FreeEvent, PrintEvent, ReturnEvent, Effect, Goes, FaultsBy, HasNone, effect, Frame, Thread, State, Outcome, Moves, Stands, Faults, Stuck, on_effect, step_left, step_frames, step_thread, step, start_of}

@@ -4,7 +4,7 @@ ghost use Rattle.c_meaning.specs.declared.action.Event.{Event};
 ghost use Rattle.c_meaning.specs.Events.{State};
 ghost use Rattle.c_meaning.specs.Steps.{Faults, Replay, race_at};
 ghost use Rattle.pl_syntax.specs.Tree.{FunDecl};
-ghost use Rattle.pl_syntax.specs.Sorts.{IsMain};
+ghost use Rattle.pl_syntax.specs.Straight.{IsMain};
 ghost use Rattle.pl_deriv.specs.Derivations.{Derives};
 ghost use Rattle.pl_source.specs.Good.{Good};
 ghost use Rattle.pl_erase.specs.Emitted.{emitted, program_of};

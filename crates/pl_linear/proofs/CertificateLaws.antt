@@ -89,7 +89,7 @@ eq_law v i (s ∷ ss) times d e some w m h =
       | false ↦ λ q. eq_law v i ss times d e some (λ k z lt. w (suc k) z (omega arith)) (λ k z lt. m (suc k) z (omega arith)) q
     ]) h
 
-eqs_law : (v : ℕ → ℤ) (eqs : List Solution) (ts : List EqTerm) (d e : List ℤ) → 0 < length d → AllSolvedWithin (length d) eqs → MeetsSolved v eqs → add_eqs eqs ts d ≡ Some e → (row_value v e ≡ row_value v d) × (length e ≡ length d)
+pub eqs_law : (v : ℕ → ℤ) (eqs : List Solution) (ts : List EqTerm) (d e : List ℤ) → 0 < length d → AllSolvedWithin (length d) eqs → MeetsSolved v eqs → add_eqs eqs ts d ≡ Some e → (row_value v e ≡ row_value v d) × (length e ≡ length d)
 eqs_law v eqs [] d e some w m h = let s : d ≡ e = cc in (ap (row_value v) (sym s), ap length (sym s))
 eqs_law v eqs (t ∷ ts) d e some w m h =
     let k = more_is (eq_times (named t.fact eqs) t.times d) (λ x. add_eqs eqs ts x) e h in
@@ -153,7 +153,7 @@ if_not : (a b : Bool) → cond a false b ≡ true → (a ≡ false) × (b ≡ tr
 if_not true b h = absurd cc
 if_not false b h = (refl, h)
 
-zero_value : (v : ℕ → ℤ) (i : ℕ) (cs : List ℤ) → all_zero cs ≡ true → places_value v i cs ≡ pos 0
+pub zero_value : (v : ℕ → ℤ) (i : ℕ) (cs : List ℤ) → all_zero cs ≡ true → places_value v i cs ≡ pos 0
 zero_value v i [] h = refl
 zero_value v i (c ∷ cs) h =
     let k = if_both (int_eq c (pos 0)) (all_zero cs) h in

@@ -15,3 +15,8 @@ pub mod Graph
 pub mod CycleItems
 pub mod Settling
 pub mod Outcomes
+pub mod Shown
+pub mod Matching
+pub mod DutyLaws
+pub mod WitnessLaws
+pub mod HintLaws

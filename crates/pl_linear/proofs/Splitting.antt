@@ -12,7 +12,7 @@ use Rattle.pl_linear.specs.Ends.{minus, general, split}
 pub neg_mul : (a b : ℤ) → (neg_ℤ a *ℤ b) +ℤ (a *ℤ b) ≡ pos 0
 neg_mul a b = let e : neg_ℤ a +ℤ a ≡ pos 0 = omega (arith, ints) in omega (arith, ints, add-mul (neg_ℤ a) a b, ap (λ z. z *ℤ b) e, zero-*ℤ b)
 
-minus_value : (v : ℕ → ℤ) (ps : List Part) → parts_value v (map minus ps) +ℤ parts_value v ps ≡ pos 0
+pub minus_value : (v : ℕ → ℤ) (ps : List Part) → parts_value v (map minus ps) +ℤ parts_value v ps ≡ pos 0
 minus_value v [] = refl
 minus_value v (p ∷ ps) = omega (arith, ints, minus_value v ps, neg_mul p.coeff (v p.atom))
 

@@ -5,4 +5,7 @@ pub mod Duty
 pub mod Nodes
 pub mod Findings
 pub mod Bounds
-pub mod Equalities
+pub mod Decisions
+pub mod Differing
+pub mod Witnesses
+pub mod Hints

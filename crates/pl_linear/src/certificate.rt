@@ -93,7 +93,7 @@ fn add_item(
 }
 
 // What a row begins with: the negated goal is 1 less the goal.
-fn start(alloc: Global, fact: Option<u32>, len: usize) -> Result<Vec<i128>, AllocError>
+pub(crate) fn start(alloc: Global, fact: Option<u32>, len: usize) -> Result<Vec<i128>, AllocError>
     requires { 0 < len }
     ensures is { IfOk result (λ v. v.items ≡ start_row fact len) }
     ensures long { IfOk result (λ v. length v.items ≡ len) }
@@ -106,7 +106,7 @@ fn start(alloc: Global, fact: Option<u32>, len: usize) -> Result<Vec<i128>, Allo
 }
 
 // The row of an item, tightened.
-fn fill(
+pub(crate) fn fill(
     alloc: Global,
     row: &mut [i128],
     item: &CertItem,
@@ -184,7 +184,7 @@ fn base_fact(
 }
 
 // Whether a fact counts; where its guard passes a limit it doesn't.
-fn does_count(alloc: Global, fact: &Fact, eqs: &[Solution]) -> Result<bool, Memory>
+pub(crate) fn does_count(alloc: Global, fact: &Fact, eqs: &[Solution]) -> Result<bool, Memory>
     requires eqs { AreSolutions eqs.now }
     requires fact { IsFact fact.now }
     ensures { IfOk result (λ b. b ≡ is_counted eqs.now fact.now) }
@@ -209,7 +209,7 @@ fn add_shaped(row: &mut [i128], fact: &Fact, back: bool) -> bool
 }
 
 // The multiples of the equations.
-fn add_all(row: &mut [i128], terms: &[EqTerm], eqs: &[Solution]) -> bool
+pub(crate) fn add_all(row: &mut [i128], terms: &[EqTerm], eqs: &[Solution]) -> bool
     requires some { 0 < length row.old }
     requires eqs_atoms { AllSolvedWithin (length row.old) eqs.now }
     ensures { Added result row.new (add_eqs eqs.now terms.now row.old) }
@@ -259,7 +259,7 @@ fn few(row: &[i128]) -> bool
 }
 
 // Whether a row is a positive constant.
-fn closes(total: &[i128]) -> bool
+pub(crate) fn closes(total: &[i128]) -> bool
     ensures { result ≡ is_closed total.now }
 {
     if total.is_empty() || total[0] <= 0 {

@@ -1,4 +1,4 @@
-ghost use Rattle.std.specs.Prelude.{◌≡◌, ◌≤◌, ◌<◌, ◌+◌, ◌-ℤ◌, ◌^◌, ℕ, true, length, map, unsigned_abs, IfOk};
+ghost use Rattle.std.specs.Prelude.{◌≡◌, ◌≤◌, ◌<◌, ◌-ℤ◌, ◌^◌, length, map, unsigned_abs, IfOk};
 ghost use Rattle.std.specs.List.{All};
 ghost use Rattle.pl_forms.specs.Forms.{IsForm};
 ghost use Rattle.pl_forms.specs.Facts.{IsFact};
@@ -52,7 +52,7 @@ pub fn find_with(alloc: Global, eqs: &Eqs, facts: &Facts, goal: &Form) -> Result
 }
 
 // A certificate of a negative cycle of the inequalities, or numbers that meet them all.
-fn settle(alloc: Global, bounds: &[Bound]) -> Result<Found, Memory>
+pub(crate) fn settle(alloc: Global, bounds: &[Bound]) -> Result<Found, Memory>
     requires forms { All (λ b. IsForm b.form) bounds.now }
     requires few { length bounds.now ≤ 4096 }
     requires nodes { length (nodes_of (forms_of bounds.now)) ≤ 4096 }
@@ -103,7 +103,7 @@ fn cert(alloc: Global, bounds: &[Bound], places: &[u32]) -> Result<Cert, Memory>
     })
 }
 
-fn copy_item(alloc: Global, item: &CertItem) -> Result<CertItem, AllocError>
+pub(crate) fn copy_item(alloc: Global, item: &CertItem) -> Result<CertItem, AllocError>
     ensures { IfOk result (λ i. i ≡ item.now) }
 {
     let mut eqs = Vec::new(alloc);

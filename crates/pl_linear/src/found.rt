@@ -1,5 +1,5 @@
 use pl_base::Items;
-use pl_forms::{Cert, EqTerm, Form};
+use pl_forms::{Cert, Form, Group};
 
 /// A node, which is a sum of atoms, and its number.
 #[derive(Debug, Drop)]
@@ -17,13 +17,11 @@ pub enum Found {
     Point(Items<NodeValue>),
 }
 
-/// What is found for a duty `t == 0`.
+/// What is decided of a duty.
 #[derive(Debug, Drop)]
-pub enum FoundEqual {
-    /// These multiples of solved equations reduce t to 0.
-    Terms(Items<EqTerm>),
-    /// t is at most 0, and its opposite is.
-    Certs(Cert, Cert),
-    /// One of these isn't done, and this is the point of the first that isn't.
-    Apart(Items<NodeValue>),
+pub enum Decided {
+    /// It is done, and these groups show it.
+    Done(Items<Group>),
+    /// It isn't: the point of its first part that isn't done, at the nodes of that part.
+    Undone(Items<NodeValue>),
 }

@@ -55,7 +55,7 @@ fn number(nodes: &[Items<Part>], node: &[Part]) -> Option<usize>
     None
 }
 
-fn is_same(one: &[Part], other: &[Part]) -> bool
+pub fn is_same(one: &[Part], other: &[Part]) -> bool
     ensures { result ≡ same_parts one.now other.now }
 {
     if one.len() != other.len() {

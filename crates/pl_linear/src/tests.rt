@@ -181,36 +181,3 @@ fn the_negated_goal_passes_its_limit(rt: HostRuntime) -> Result<(), Fail> {
     );
     Ok(())
 }
-
-#[test]
-fn a_form_that_reduces_to_nought_needs_the_equations_alone(rt: HostRuntime) -> Result<(), Fail> {
-    // x == y gives 2 * x - 2 * y == 0: less twice x - y there is nothing left
-    let alloc = rt.alloc();
-    let facts = known(alloc, Shape::Zero, sum(alloc, 1, -1, 0)?)?;
-    let eqs = Eqs::of(alloc, &facts)?;
-    let found = find_equal(alloc, &eqs, &facts, &sum(alloc, 2, -2, 0)?)?;
-    let FoundEqual::Terms(terms) = found else {
-        return Err("not by the equations")?;
-    };
-    let twice = EqTerm { times: -2, fact: 0 };
-    assert_eq!(rt; terms.as_slice(), [twice].as_slice());
-    Ok(())
-}
-
-#[test]
-fn the_second_part_of_an_equality_has_a_point(rt: HostRuntime) -> Result<(), Fail> {
-    // x <= 3 leaves x == 3 undone at x = 0
-    let alloc = rt.alloc();
-    let facts = known(alloc, Shape::Below, sum(alloc, 1, 0, -3)?)?;
-    let eqs = Eqs::of(alloc, &facts)?;
-    let found = find_equal(alloc, &eqs, &facts, &sum(alloc, 1, 0, -3)?)?;
-    let FoundEqual::Apart(point) = found else {
-        return Err("no point")?;
-    };
-    let values = point.as_slice();
-    assert_eq!(rt; values.len(), 2);
-    let x = Part { coeff: 1, atom: 0 };
-    assert_eq!(rt; values[1].node.parts.as_slice(), [x].as_slice());
-    assert_eq!(rt; values[1].value, 0);
-    Ok(())
-}

@@ -1,6 +1,6 @@
 -- The search for the least code that goes on.
 use Rattle.std.proofs.Common.{◌≡◌, ℕ, ◌+◌, ◌≤◌, ◌<◌, ◌==◌, inl, inr, Bool, true, false, refl, subst, arith}
-use Rattle.std.proofs.lemmas.Bool.{eqb-true, cases_lt}
+use Rattle.std.proofs.lemmas.Bool.{eqb-true, eqb-false, cases_lt}
 use Rattle.pl_grammar.specs.Refusals.{IsCode}
 use Rattle.pl_parser.specs.Steps.{following}
 
@@ -18,6 +18,14 @@ module _ (code : ℕ) (h : code < 255) where
 
   pub following-more : code < following code
   following-more = more_by (code == 100) refl
+
+  code_by : (b : Bool) → code == 100 ≡ b → IsCode code → IsCode (following code)
+  code_by true e c = rw e (inr (omega arith))
+  code_by false e (inl le) = let apart = eqb-false code 100 e in rw e (inl (omega (arith, apart)))
+  code_by false e (inr le) = rw e (inr (omega arith))
+
+  pub following-code : IsCode code → IsCode (following code)
+  following-code = code_by (code == 100) refl
 
   module _ (P : ℕ → Type 0) (none : (m : ℕ) → m < code → IsCode m → P m → ⊥) (not : P code → ⊥) where
     here : (m : ℕ) → code ≤ m → m ≤ code → P m → ⊥

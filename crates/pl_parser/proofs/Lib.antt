@@ -3,3 +3,5 @@ mod Declared
 mod Arms
 mod Refusing
 mod Least
+mod One
+mod First

@@ -1,8 +1,8 @@
 -- What the parts of parsing answer on the way to a refusal.
-use Rattle.std.specs.Prelude.{◌≡◌, ℕ, ◌+◌, ◌-◌, ◌≤◌, ◌<◌, ◌==◌, ◌&&◌, ◌||◌, if◌then◌else◌, Bool, true, false, List, length, Option, Some, None, Result, Ok, Err}
+use Rattle.std.specs.Prelude.{◌≡◌, ℕ, ◌+◌, ◌≤◌, ◌==◌, ◌&&◌, ◌||◌, if◌then◌else◌, Bool, true, false, List, length, Option, Some, None, Result, Ok, Err}
 use Rattle.pl_lexer.specs.declared.tokens.Token.{Token}
 use Rattle.pl_readers.specs.declared.error.Stop.{Stop}
-use Rattle.pl_grammar.specs.Refusals.{IsTooMany, IsLastMinus, NotFull}
+use Rattle.pl_grammar.specs.Refusals.{IsTooMany, NotFull}
 
 -- where it stopped, if it did
 abbrev pub StopsAt : {A : Type 0} → Result A Stop → Option Stop → Type 0
@@ -37,7 +37,3 @@ AnotherAt xs (Some k) = IsTooMany xs k × (k ≤ length xs)
 abbrev pub if_any : Bool → ℕ → Option ℕ
 if_any true n = Some n
 if_any false n = None
-
--- right before the token at k stands a minus whose operand needs more levels
-abbrev pub MinusBefore : List Token → ℕ → Type 0
-MinusBefore tokens k = (0 < k) × IsLastMinus tokens (k - 1)

@@ -4,9 +4,11 @@
 mod decls;
 mod error;
 mod files;
+mod laws;
 mod whole;
 
 pub use error::ParseError;
+pub use laws::{refusals_are_one, stops_come_first};
 pub use whole::parse;
 
 #[cfg(test)]

@@ -7,7 +7,6 @@ ghost use Rattle.pl_readers.specs.Reader.{begins, whole};
 ghost use Rattle.pl_syntax.specs.Tree as tree;
 ghost use Rattle.pl_parser.specs.Answer as answer;
 ghost use Rattle.pl_grammar.specs.Refusals as spec;
-ghost use Rattle.pl_grammar.specs.Refusals.{NeedsMore};
 ghost use Rattle.pl_grammar.specs.FileGrammar.{File};
 ghost use Rattle.pl_grammar.specs.FileReaders as read;
 ghost use Rattle.pl_grammar.specs.FileReaders.{declaration_firsts};
@@ -150,7 +149,8 @@ fn following(code: u8) -> u8
 /// The least code that was expected.
 fn expected(alloc: Global, before: &[Token]) -> Result<u8, Memory>
     requires { IsViable (File 66) before.now }
-    ensures { IfOk result (spec.IsLeastCode before.now) }
+    ensures least { IfOk result (spec.IsLeastCode before.now) }
+    ensures code { IfOk result (λ n. spec.IsCode n × (n ≤ 255)) }
 {
     let mut code: u8 = 0;
     'codes: while code < 255 {
@@ -197,7 +197,7 @@ fn wants_level(stop: Option<Stop>) -> bool
 
 /// Whether a name behind these tokens needs a level more.
 fn name_wants_level(alloc: Global, before: &[Token]) -> Result<bool, Memory>
-    ensures { IfOk result (λ b. b ≡ true → NeedsMore (before.now ++ spec.token_of_code 255 ∷ []) (length before.now)) }
+    ensures { IfOk result (λ b. steps.Tells b (answer.StopsBehind (before.now ++ spec.token_of_code 255 ∷ []) (length before.now) true)) }
 {
     let mut text = all_copied(alloc, before)?;
     text.push(token_of(alloc, 255)?)?;
@@ -205,10 +205,10 @@ fn name_wants_level(alloc: Global, before: &[Token]) -> Result<bool, Memory>
     Ok(wants_level(stop))
 }
 
-/// Whether the token at `k` is a minus right before no number, whose operand would need more levels.
+/// Whether the token at `k` is a minus right before no number, whose operand would need a level more.
 fn is_last_minus(alloc: Global, tokens: &[Token], k: usize) -> Result<bool, Memory>
     requires { k < length tokens.now }
-    ensures { IfOk result (λ b. b ≡ true → spec.IsLastMinus tokens.now k) }
+    ensures { IfOk result (λ b. steps.Tells b (answer.IsDeepMinus tokens.now k)) }
 {
     let (_, minus) = tokens.split_at(k);
     let (before, behind) = tokens.split_at(k + 1);
@@ -224,7 +224,7 @@ fn is_last_minus(alloc: Global, tokens: &[Token], k: usize) -> Result<bool, Memo
 /// Whether right before the token at `k` stands such a minus.
 fn minus_before(alloc: Global, tokens: &[Token], k: usize) -> Result<bool, Memory>
     requires { k ≤ length tokens.now }
-    ensures { IfOk result (λ b. b ≡ true → steps.MinusBefore tokens.now k) }
+    ensures { IfOk result (λ b. steps.Tells b (answer.EndsInDeepMinus tokens.now k)) }
 {
     if k == 0 {
         return Ok(false);

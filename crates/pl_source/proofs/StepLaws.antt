@@ -8,7 +8,7 @@ use Rattle.pl_syntax.specs.declared.expr.Sort.TheVariants.{I64, RefI64}
 use Rattle.pl_syntax.specs.Tree.{Name, Expr, Int, Var, Whole, Stmt, Load, Alloc, Free, Print}
 use Rattle.pl_syntax.specs.Values as values
 use Rattle.pl_syntax.specs.Values.{Value, Number, Truth, Null, HasSort, Vars, bind, value_of}
-use Rattle.pl_syntax.specs.Sorts.{Scope, sort_of, IsInteger, AreSorted}
+use Rattle.pl_syntax.specs.Straight.{Scope, sort_of, IsInteger, AreSorted}
 use Rattle.pl_syntax.specs.Resource.{Plain, Cell, FreeToken, Resource, Adds, nothing, put_at}
 use Rattle.pl_syntax.specs.Holds.{Owns}
 use Rattle.pl_syntax.proofs.ResourceLaws.{adds_comm, adds_assoc, adds_assoc', put_adds, give_up, owns_put}

@@ -5,7 +5,7 @@ use Rattle.pl_syntax.specs.Tree.{Name, Stmt, Load, Alloc, Free, Print}
 use Rattle.pl_syntax.specs.declared.expr.Sort.{Sort}
 use Rattle.pl_syntax.specs.declared.expr.Sort.TheVariants.{I64, RefI64}
 use Rattle.pl_syntax.specs.Values.{Value, Number, HasSort, Vars}
-use Rattle.pl_syntax.specs.Sorts.{Scope, sort_of}
+use Rattle.pl_syntax.specs.Straight.{Scope, sort_of}
 use Rattle.pl_syntax.specs.Resource.{Plain, Share, Resource, Adds}
 use Rattle.pl_terms.specs.declared.term.Term.{Term}
 use Rattle.pl_terms.specs.Terms.{Values, eval, AllHold, Extends, Fresh}

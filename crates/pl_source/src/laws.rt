@@ -2,7 +2,7 @@ ghost use Rattle.std.specs.Prelude.{◌≡◌, ℕ, Bool, List, Some, None, ◌+
 ghost use Rattle.pl_base.specs.declared.pos.Pos.{Pos};
 ghost use Rattle.pl_syntax.specs.Tree.{Name, Whole, Stmt, Load, Free};
 ghost use Rattle.pl_syntax.specs.Values.{Value, Block, Vars};
-ghost use Rattle.pl_syntax.specs.Sorts.{Scope, AreSorted};
+ghost use Rattle.pl_syntax.specs.Straight.{Scope, AreSorted};
 ghost use Rattle.pl_syntax.specs.Resource.{Resource, Adds, Cell, FreeToken, put_at};
 ghost use Rattle.pl_terms.specs.Terms.{Values};
 ghost use Rattle.pl_terms.specs.Table.{Known, Rule};

@@ -11,6 +11,7 @@ use Rattle.pl_syntax.specs.contracts.program.Decl as D
 use Rattle.pl_syntax.specs.contracts.program.PredDecl as Pred
 use Rattle.pl_syntax.specs.contracts.program.Program as Program
 use Rattle.pl_syntax.specs.contracts.stmt.Stmts as S
+use Rattle.pl_syntax.specs.contracts.straight.Straight as Straight
 use Rattle.pl_syntax.specs.contracts.typed.Typed as Typed
 
 ruleset known = (crosses, expr.crosses, prop.crosses, stmt.crosses, sendable)
@@ -62,3 +63,15 @@ typed-send = view_send Typed.TheInside.the_row _ _ _ _ inside-send
 
 pub typed-sync : IsSync Typed.the_row
 typed-sync = view_sync Typed.TheInside.the_row _ _ _ _ inside-sync
+
+straight-inside-send : IsSend Straight.TheInside.the_row
+straight-inside-send = declared_send Straight.TheInside.the_type (search (known, program-send) depth 60 fits 20000, tt)
+
+straight-inside-sync : IsSync Straight.TheInside.the_row
+straight-inside-sync = declared_sync Straight.TheInside.the_type (search (known, program-sync) depth 60 fits 20000, tt)
+
+pub straight-send : IsSend Straight.the_row
+straight-send = view_send Straight.TheInside.the_row _ _ _ _ straight-inside-send
+
+pub straight-sync : IsSync Straight.the_row
+straight-sync = view_sync Straight.TheInside.the_row _ _ _ _ straight-inside-sync

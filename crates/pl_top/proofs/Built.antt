@@ -20,6 +20,7 @@ IsBuiltVerb v.Emit = Unit {0}
 IsBuiltVerb v.Run = Unit {0}
 IsBuiltVerb v.Replay = Unit {0}
 IsBuiltVerb v.Go = Unit {0}
+IsBuiltVerb v.Fmt = Unit {0}
 IsBuiltVerb _ = ⊥
 
 all_built : {A B : Type 0} → (Q : B → Type 0) (r : Result A WordError) (f : A → B) → ((x : A) → Q (f x)) → IfOk (next r (λ x. Ok (f x))) Q
@@ -40,6 +41,7 @@ made_built v.Emit b place said = all_built IsBuilt (both place said.first said.o
 made_built v.Run b place said = all_built IsBuilt (needed place said.first) _ (λ _. tt)
 made_built v.Replay b place said = all_built IsBuilt (both place said.first said.second) _ (λ _. tt)
 made_built v.Go b place said = all_built IsBuilt (both place said.first said.output) _ (λ _. tt)
+made_built v.Fmt b place said = all_built IsBuilt (needed place said.first) _ (λ _. tt)
 made_built _ b place said = absurd b
 
 from_built : (verb : Verb) → IsBuiltVerb verb → (place : ℕ) (said : Said) (words : List (List ℕ)) → IfOk (from verb place said words) IsBuilt
@@ -68,11 +70,12 @@ either_word w name first verb b e f h = elim (or_cases first (bytes_eq w name) h
 
 named : (w : List ℕ) → is_built w ≡ true → Named w
 named w h =
-    either_word w (codes "go") _ v.Go tt refl
+    either_word w (codes "fmt") _ v.Fmt tt refl
+    (either_word w (codes "go") _ v.Go tt refl
     (either_word w (codes "replay") _ v.Replay tt refl
     (either_word w (codes "run") _ v.Run tt refl
     (either_word w (codes "emit") _ v.Emit tt refl
-    (by_word w (codes "check") v.Check tt refl))))
+    (by_word w (codes "check") v.Check tt refl)))))
     h
 
 told_built : (r told : Result Command WordError) → Tells r told → IfOk told IsBuilt → IfOk r IsBuilt

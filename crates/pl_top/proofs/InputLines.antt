@@ -1,9 +1,10 @@
 -- The first line of a text.
-use Rattle.std.proofs.Common.{◌≡◌, ℕ, suc, ℤ, Option, Some, None, ◌+◌, ◌-◌, ◌<◌, ◌==◌, Bool, true, false, List, [], ◌∷◌, ◌++◌, length, take, drop, refl, sym, ap, ap₂, ◌∙◌, arith, append_assoc, append-nil, length-append, length-drop}
+use Rattle.std.proofs.Common.{◌≡◌, ℕ, suc, ℤ, Option, Some, None, ◌+◌, ◌-◌, ◌*◌, ◌<◌, ◌≤◌, ◌==◌, Bool, true, false, List, [], ◌∷◌, ◌++◌, length, take, drop, refl, sym, ap, ap₂, ◌∙◌, arith, append_assoc, append-nil, length-append, length-drop}
 use Rattle.std.specs.Prelude.{Result, Ok, Err}
 use Rattle.std.specs.List.{prefix_len}
 use Rattle.std.proofs.lemmas.List.{take_all}
 use Rattle.std.proofs.lemmas.Bool.{eqb-true}
+use Rattle.pl_base.specs.Tokens.{digits_onto}
 use Rattle.pl_top.specs.Input.{lines_behind, lines_of, last_line, is_inside, number_of, before, numbers_from, input_of}
 
 -- there is a line, of which these bytes are the beginning
@@ -75,3 +76,8 @@ all_read bytes rest zs n h e = h ∙ ap (λ (t : List ℕ). onto zs (numbers_fro
 pub nothing_left : (rest : List ℕ) (b : Bool) → b ≡ (length rest == 0) → b ≡ true → rest ≡ []
 nothing_left [] b e h = refl
 nothing_left (x ∷ xs) b e h = absurd (omega (arith, eqb-true (length (x ∷ xs)) 0 (sym e ∙ h)))
+
+-- digits behind others make no smaller number
+pub value_grows : (v : ℕ) (bs : List ℕ) → v ≤ digits_onto v bs
+value_grows v [] = omega arith
+value_grows v (b ∷ bs) = omega (arith, value_grows (v * 10 + (b - 48)) bs)

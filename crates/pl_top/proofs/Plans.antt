@@ -1,8 +1,11 @@
 -- From what is found in files and an input to what is done.
 use Rattle.std.proofs.Common.{◌≡◌, ℕ, ℤ, List, ◌++◌, ◌<◌, ◌≤◌, ◌-◌, ◌^◌, length, refl, sym, ap, ◌∙◌, subst, arith}
 use Rattle.std.specs.Prelude.{Ok, Err, flat_map}
+use Rattle.std.specs.List.{AllByRecursion}
 use Rattle.std.proofs.lemmas.List.{length-append}
 use Rattle.pl_syntax.specs.Tree as t
+use Rattle.pl_files.specs.Files.{IsFile}
+use Rattle.pl_files.specs.Names.{program_names}
 use Rattle.pl_walk.proofs.WalkLaws.{all_done_derives}
 use Rattle.pl_erase.specs.Emitted.{emitted, program_of}
 use Rattle.pl_laws.specs.SameRuns.{SameRuns}
@@ -27,7 +30,6 @@ use Rattle.pl_top.specs.Judging.{Outcome, says, Refuses, IsCOf, RefusesC, is_no_
 use Rattle.pl_top.specs.Checks.{said, IfRefused, AcceptedAs}
 use Rattle.pl_top.specs.Runs.{IsSafe}
 use Rattle.pl_top.specs.Goes.{IsEmission, IsProgramOf, IsReplayOf}
-use Rattle.pl_top.specs.declared.judge.Answer.{Answer}
 use Rattle.pl_top.specs.declared.judge.PlanError.{PlanError}
 use Rattle.pl_top.specs.declared.judge.PlanError.TheVariants.{Refused, Memory}
 use Rattle.pl_top.specs.declared.emit.Emitted.{Emitted}
@@ -39,8 +41,8 @@ refused_wider (Refused answer) P Q f h = f (said answer) h
 refused_wider Memory P Q f h = tt
 
 -- the C program of a file that is accepted
-pub emission_is : (bytes : List ℕ) (p : t.Program) (e : Emitted) → AcceptedAs bytes p → IsEmission p e → IsProgramOf bytes e
-emission_is bytes p e x h =
+pub emission_is : (bytes : List ℕ) (p : t.Program) (e : Emitted) → AcceptedAs bytes p → IsEmission p e → ((bs : List ℕ) (q : t.Program) → IsFile bs q → AllByRecursion IsName (program_names q)) → IsProgramOf bytes e
+emission_is bytes p e x h proper =
     let main = x.accepted.main in
     let is : plain_program e.program ≡ emitted (program_of main) = h.is ∙ ap emitted x.is in
     let derives = all_done_derives main x.accepted.done in
@@ -48,7 +50,7 @@ emission_is bytes p e x h =
       program = record {
         accepted = x.accepted;
         is = is;
-        text = record { fragment = h.fragment; names = subst (ProgramNames IsName) (sym is) (program_named bytes main x.accepted.file); text = refl };
+        text = record { fragment = h.fragment; names = subst (ProgramNames IsName) (sym is) (program_named main x.sorted (proper bytes (program_of main) x.accepted.file.file.file)); text = refl };
         same = subst (SameRuns main) (sym is) (same_runs main x.sorted derives);
       };
       text = h.text;

@@ -1,5 +1,5 @@
 -- From the calls of the host to what a command promises.
-use Rattle.std.proofs.Common.{◌≡◌, ℕ, ℤ, List, [], ◌∷◌, ◌⊎◌, inl, inr, true, false, refl, sym, ap, ◌∙◌, subst}
+use Rattle.std.proofs.Common.{◌≡◌, ℕ, ℤ, List, [], ◌∷◌, inl, inr, false, refl, sym, ap, ◌∙◌, subst}
 use Rattle.std.specs.Prelude.{Option, Some, None, Result, Ok, Err, IfOk, OnErr}
 use Rattle.std.specs.Io.KnownBytes.{Appends}
 use Rattle.std.proofs.lemmas.Bool.{both_ways, false≢true}
@@ -9,18 +9,17 @@ use Rattle.pl_words.specs.declared.command.Command.TheVariants as c
 use Rattle.pl_words.specs.declared.command.RunOpts.{RunOpts}
 use Rattle.c_syntax.specs.Tree.{Program}
 use Rattle.c_syntax.specs.Plain.{plain_program}
-use Rattle.c_syntax.specs.Text.{program_text}
 use Rattle.c_meaning.specs.declared.action.Event.{Event}
 use Rattle.c_runner.specs.declared.run_end.RunEnd.{RunEnd}
 use Rattle.c_runner.specs.declared.run_end.RunEnd.TheVariants as end
 use Rattle.c_runner.specs.Runs.{IsRun}
 use Rattle.pl_top.specs.declared.fetch.Fault.{Fault}
 use Rattle.pl_top.specs.declared.fetch.Fault.TheVariants as fault
-use Rattle.pl_top.specs.Telling.{Given, whole, long, Takes, Reads, Put, AllPut, AppendsPart, is_in, is_out}
-use Rattle.pl_top.specs.Lines.{accepted, limit_file, limit_input, outputs_text, end_line}
+use Rattle.pl_top.specs.Telling.{Given, whole, Takes, Reads, Put, AllPut, AppendsPart, is_in, is_out}
+use Rattle.pl_top.specs.Lines.{accepted}
 use Rattle.pl_top.specs.Input.{input_of}
-use Rattle.pl_top.specs.Judging.{Outcome, says, IsEmitted, put_text, IsCOf, IsReadable, Ran, ran, IsSafeEnd, status_of, put_history, behind, JudgesCheck, checked, JudgesEmit, emits, JudgesGo, goes, JudgesRun, runs, JudgesReplay, most_source, most_text, OfFile, too_long, taken, OfInput, input_too_long, read, Judged}
-use Rattle.pl_top.specs.Calls.{CameTo, EmitsTo, HasC, HasNumbers, Begins, none, emit_text, go_text, go_history, run_history, DidPart, put_whole, put_failed, wrote, Did, DidCommand}
+use Rattle.pl_top.specs.Judging.{Outcome, says, IsEmitted, put_text, IsCOf, IsReadable, Ran, IsSafeEnd, status_of, put_history, behind, JudgesEmit, emits, JudgesGo, goes, JudgesRun, runs, JudgesReplay, most_source, most_text, taken, read, Judged}
+use Rattle.pl_top.specs.Calls.{CameTo, EmitsTo, HasNumbers, Begins, none, emit_text, go_text, go_history, run_history, DidPart, put_whole, put_failed, wrote, Did, DidCommand}
 use Rattle.pl_top.specs.Runs.{IsSafe, IsDone}
 use Rattle.pl_top.specs.Goes.{IsProgramOf, IsRunOf, CanPut, not_yet, history_put, Behind, first, more, IsBehind, FirstFailed, HistoryFailed}
 use Rattle.pl_top.specs.declared.emit.Emitted.{Emitted}

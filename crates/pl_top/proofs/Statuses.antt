@@ -6,7 +6,9 @@ use Rattle.pl_base.specs.declared.pos.Memory.{Memory}
 use Rattle.pl_base.specs.Outside.{Files, Counts}
 use Rattle.pl_words.specs.declared.command.Command.{Command}
 use Rattle.pl_words.specs.declared.command.RunOpts.{RunOpts}
-use Rattle.pl_words.specs.declared.command.Command.TheVariants.{Check, Emit, Run, Replay, Go}
+use Rattle.pl_words.specs.declared.command.Command.TheVariants.{Check, Emit, Fmt, Run, Replay, Go}
+use Rattle.pl_files.specs.declared.error.FileError.{FileError}
+use Rattle.pl_files.specs.declared.error.FileError.TheVariants as file
 use Rattle.c_runner.specs.declared.run_end.RunEnd.{RunEnd}
 use Rattle.c_runner.specs.declared.run_end.RunEnd.TheVariants as end
 use Rattle.c_history.specs.declared.replaying.Replayed.{Replayed}
@@ -14,8 +16,8 @@ use Rattle.c_history.specs.declared.replaying.Replayed.TheVariants.{Follows, Dif
 use Rattle.pl_top.specs.declared.fetch.Fault.{Fault}
 use Rattle.pl_top.specs.declared.fetch.Fault.TheVariants as fault
 use Rattle.pl_top.specs.Telling.{Untouched, is_in, is_out, told_of, HasCauses}
-use Rattle.pl_top.specs.Judging.{Outcome, Refuses, is_long_named, is_undone, is_not_built, RefusesC, is_no_c, RefusesHistory, is_no_history, RefusesInput, is_no_input, status_of, replayed, JudgesCheck, checked, not_checked, JudgesEmit, emits, not_emitted, JudgesGo, goes, no_numbers, not_gone, JudgesRun, runs, run_no_numbers, not_run, JudgesReplay, replays, replay_no_numbers, no_history, not_replayed, OfFile, too_long, taken, OfInput, input_too_long, read, Judged}
-use Rattle.pl_top.specs.Calls.{CameTo, Answered, PartDone, DidCommand, IsExactFor, CommandKeeps}
+use Rattle.pl_top.specs.Judging.{Outcome, file_status, Refuses, is_unread, is_not_built, is_undone, RefusesC, is_no_c, RefusesHistory, is_no_history, RefusesInput, is_no_input, status_of, replayed, JudgesCheck, checked, not_checked, JudgesFmt, formats, not_formatted, JudgesEmit, emits, not_emitted, JudgesGo, goes, no_numbers, not_gone, JudgesRun, runs, run_no_numbers, not_run, JudgesReplay, replays, replay_no_numbers, no_history, not_replayed, OfFile, too_long, taken, OfInput, input_too_long, read, Judged}
+use Rattle.pl_top.specs.Calls.{Answered, PartDone, DidCommand, IsExactFor, CommandKeeps}
 use Rattle.pl_top.proofs.Delivered.{came_part}
 use Rattle.pl_top.proofs.Exact.{answered_exactly}
 
@@ -36,10 +38,14 @@ told_3 = ((λ e. omega (arith, e)), (λ e. omega (arith, e)))
 told_10 : IsTold 10
 told_10 = ((λ e. omega (arith, e)), (λ e. omega (arith, e)))
 
+file_told : (error : FileError) → IsTold (file_status error)
+file_told (file.TooMany place) = told_10
+file_told _ = told_3
+
 refuses_told : (bytes : List ℕ) (o : Outcome) → Refuses bytes o → IsTold o.status
-refuses_told bytes _ (is_long_named place l) = told_3
+refuses_told bytes _ (is_unread error u) = file_told error
+refuses_told bytes _ (is_not_built place n) = told_3
 refuses_told bytes _ (is_undone place duty u) = told_1
-refuses_told bytes _ (is_not_built n) = told_3
 
 c_told : (bytes : List ℕ) (o : Outcome) → RefusesC bytes o → IsTold o.status
 c_told bytes _ (is_no_c none n first) = told_3
@@ -65,6 +71,10 @@ replay_told n (Differs k expected found) = told_1
 check_told : (bytes : List ℕ) (o : Outcome) → JudgesCheck bytes o → IsTold o.status
 check_told bytes _ (checked a) = told_0
 check_told bytes _ (not_checked o r) = refuses_told bytes o r
+
+fmt_told : (bytes : List ℕ) (o : Outcome) → JudgesFmt bytes o → IsTold o.status
+fmt_told bytes _ (formats p f) = told_0
+fmt_told bytes _ (not_formatted error u) = file_told error
 
 emit_told : (bytes name : List ℕ) (o : Outcome) → JudgesEmit bytes name o → IsTold o.status
 emit_told bytes name _ (emits program e) = told_0
@@ -96,6 +106,7 @@ of_input told left Judges _ (read bytes reads o j) f = f bytes o j
 
 judged_told : (command : Command) (files : Option Files) (told left : Option (List ℕ)) (o : Outcome) → Judged command files told left o → IsTold o.status
 judged_told (Check source jobs) files told left o j = of_file files source _ told left _ o j (λ bytes said k. check_told bytes said k.1)
+judged_told (Fmt source) files told left o j = of_file files source _ told left _ o j (λ bytes said k. fmt_told bytes said k.1)
 judged_told (Emit source name) files told left o j = of_file files source _ told left _ o j (λ bytes said k. emit_told bytes name said k.1)
 judged_told (Go source name opts) files told left o j = of_file files source _ told left _ o j (λ bytes said k. of_input told left _ said k (go_told bytes name opts))
 judged_told (Run name opts) files told left o j = of_file files name _ told left _ o j (λ bytes said k. of_input told left _ said k (run_told bytes opts))

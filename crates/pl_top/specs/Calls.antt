@@ -1,9 +1,13 @@
 -- What a call of the program promises.
-use Rattle.std.specs.Prelude.{◌≡◌, ◌≢◌, ◌≤◌, ◌<◌, ◌↔◌, ◌⊎◌, ⊤, ℕ, ℤ, List, [], ◌∷◌, ◌++◌, Bool, true, length, Option, Some, Result, Ok, Err, IfOk, OnErr}
+use Rattle.std.specs.Prelude.{◌≡◌, ◌≢◌, ◌≤◌, ◌<◌, ◌↔◌, ◌⊎◌, ⊤, ℕ, ℤ, List, [], ◌∷◌, ◌++◌, true, length, Option, Some, Result, Ok, Err, IfOk, OnErr}
 use Rattle.std.specs.Io.KnownBytes.{Appends}
 use Rattle.pl_base.specs.declared.pos.Pos.{Pos}
 use Rattle.pl_base.specs.declared.pos.Memory.{Memory}
 use Rattle.pl_base.specs.Outside.{Files, KeepsOthers, file_in}
+use Rattle.pl_syntax.specs.Tree.{Program}
+use Rattle.pl_files.specs.declared.error.FileError.{FileError}
+use Rattle.pl_files.specs.declared.error.FileError.TheVariants as file
+use Rattle.pl_files.specs.Files.{IsFile}
 use Rattle.pl_walk.specs.declared.walk.Duty.{Duty}
 use Rattle.pl_words.specs.declared.command.Command.{Command}
 use Rattle.pl_words.specs.declared.command.Command.TheVariants as c
@@ -11,7 +15,6 @@ use Rattle.pl_words.specs.declared.command.RunOpts.{RunOpts}
 use Rattle.pl_words.specs.declared.command.WordError.{WordError}
 use Rattle.pl_words.specs.declared.command.WordError.TheVariants as e
 use Rattle.c_syntax.specs.Tree as tree
-use Rattle.c_meaning.specs.declared.action.Event.{Event}
 use Rattle.c_meaning.specs.Events.{State}
 use Rattle.c_meaning.specs.Steps.{Replay}
 use Rattle.c_meaning.specs.declared.action.History.{History}
@@ -19,7 +22,7 @@ use Rattle.pl_top.specs.declared.fetch.Fault.{Fault}
 use Rattle.pl_top.specs.Telling.{whole, Takes, Reads, Put, AllPut, AppendsPart, Untouched, is_in, HasCauses}
 use Rattle.pl_top.specs.Lines.{usage_line}
 use Rattle.pl_top.specs.Input.{input_of}
-use Rattle.pl_top.specs.Judging.{Outcome, says, IsAccepted, IsUndone, IsUnread, IsEmitted, put_text, put_history, IsCOf, IsNoC, IsHistoryOf, IsNoHistory, Ran, status_of, most_source, most_text, Judged}
+use Rattle.pl_top.specs.Judging.{Outcome, says, IsAccepted, IsUndone, IsNotBuilt, IsUnread, IsUnparsed, file_status, IsEmitted, put_text, put_history, IsCOf, IsNoC, IsHistoryOf, IsNoHistory, Ran, status_of, most_source, most_text, Judged}
 
 -- one of these outcomes came about: exactly its files were put, and exactly its text was written
 pub record CameTo (IsOutcome : Outcome → Type 0) (files files' : Option Files) (out out' : Option (List ℕ)) (status : ℕ) : Type 0 where
@@ -102,12 +105,26 @@ IsShort bytes = length bytes ≤ 1048576
 abbrev pub IsShortText : List ℕ → Type 0
 IsShortText bytes = length bytes ≤ 268435456
 
+-- the file is refused: it isn't read, for a reason that is no limit, or a form of it isn't built
+abbrev pub IsRefused : List ℕ → Type 0
+IsRefused bytes = ((error : FileError) × IsUnread bytes error × (file_status error ≡ 3)) ⊎ ((place : Pos) × IsNotBuilt bytes place)
+
+-- the file has more declarations than may be
+abbrev pub HasTooMany : List ℕ → Type 0
+HasTooMany bytes = (place : Pos) × IsUnread bytes (file.TooMany place)
+
 -- each status of `check` and of `emit` comes exactly by its cause in the file's bytes
 pub record IsExact (bytes : List ℕ) (status : ℕ) : Type 0 where
   pub accepted : (status ≡ 0) ↔ (IsShort bytes × IsAccepted bytes)
   pub undone : (status ≡ 1) ↔ (IsShort bytes × ((place : Pos) × (duty : Duty) × IsUndone bytes place duty))
-  pub unread : (status ≡ 3) ↔ (IsShort bytes × IsUnread bytes)
-  pub too_long : (status ≡ 10) ↔ (1048576 < length bytes)
+  pub refused : (status ≡ 3) ↔ (IsShort bytes × IsRefused bytes)
+  pub too_large : (status ≡ 10) ↔ ((1048576 < length bytes) ⊎ HasTooMany bytes)
+
+-- each status of `fmt` comes exactly by its cause in the file's bytes
+pub record IsExactFmt (bytes : List ℕ) (status : ℕ) : Type 0 where
+  pub formatted : (status ≡ 0) ↔ (IsShort bytes × ((program : Program) × IsFile bytes program))
+  pub refused : (status ≡ 3) ↔ (IsShort bytes × ((error : FileError) × IsUnparsed bytes error × (file_status error ≡ 3)))
+  pub too_large : (status ≡ 10) ↔ ((1048576 < length bytes) ⊎ ((place : Pos) × IsUnparsed bytes (file.TooMany place)))
 
 -- the input's text is refused
 abbrev pub HasNoNumbers : List ℕ → Type 0
@@ -117,8 +134,8 @@ HasNoNumbers input = (n : ℕ) × (input_of input ≡ Err n)
 pub record IsExactGo (bytes input : List ℕ) (status : ℕ) : Type 0 where
   pub runs : (status ≡ 0) ⊎ ((status ≡ 7) ⊎ (status ≡ 8)) → IsAccepted bytes
   pub undone : (status ≡ 1) ↔ (IsShort bytes × IsShort input × ((place : Pos) × (duty : Duty) × IsUndone bytes place duty))
-  pub refused : (status ≡ 3) ↔ (IsShort bytes × IsShort input × (IsUnread bytes ⊎ (IsAccepted bytes × HasNoNumbers input)))
-  pub too_long : (1048576 < length bytes) ⊎ (1048576 < length input) → status ≡ 10
+  pub refused : (status ≡ 3) ↔ (IsShort bytes × IsShort input × (IsRefused bytes ⊎ (IsAccepted bytes × HasNoNumbers input)))
+  pub too_large : (1048576 < length bytes) ⊎ ((1048576 < length input) ⊎ HasTooMany bytes) → status ≡ 10
   pub never : status ≢ 9
 
 -- the status is that of the end of a run of the C on the input's numbers
@@ -163,6 +180,7 @@ pub record IsExactReplay (bytes events input : List ℕ) (status : ℕ) : Type 0
 -- where the files and the input are told, so does each status of what the words ask for
 abbrev pub IsExactFor : Result Command WordError → Option Files → Option (List ℕ) → ℕ → Type 0
 IsExactFor (Ok (c.Check source jobs)) (Some files) told status = (bytes : List ℕ) → file_in source files ≡ Some bytes → IsExact bytes status
+IsExactFor (Ok (c.Fmt source)) (Some files) told status = (bytes : List ℕ) → file_in source files ≡ Some bytes → IsExactFmt bytes status
 IsExactFor (Ok (c.Emit source name)) (Some files) told status = (bytes : List ℕ) → file_in source files ≡ Some bytes → IsExact bytes status
 IsExactFor (Ok (c.Go source name opts)) (Some files) (Some input) status = (bytes : List ℕ) → file_in source files ≡ Some bytes → IsExactGo bytes input status
 IsExactFor (Ok (c.Run name opts)) (Some files) (Some input) status = (bytes : List ℕ) → file_in name files ≡ Some bytes → IsExactRun bytes opts input status

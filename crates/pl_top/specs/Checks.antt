@@ -2,7 +2,9 @@
 use Rattle.std.specs.Prelude.{◌≡◌, ℕ, List, Option, Some, None}
 use Rattle.pl_base.specs.declared.pos.Pos.{Pos}
 use Rattle.pl_syntax.specs.Tree.{FunDecl, Program}
-use Rattle.pl_syntax.specs.Sorts.{IsMain}
+use Rattle.pl_syntax.specs.Straight.{IsMain}
+use Rattle.pl_syntax.specs.Unbuilt.{first_unbuilt}
+use Rattle.pl_files.specs.Files.{IsTypedFile}
 use Rattle.pl_walk.specs.declared.walk.Duty.{Duty}
 use Rattle.pl_walk.specs.Walk.{Undone, AllDone}
 use Rattle.pl_source.specs.Good.{Good}
@@ -26,6 +28,12 @@ IfRefused Memory P = Unit {0}
 abbrev pub Finds : FunDecl → Option Answer → Type 0
 Finds main None = AllDone main × Good main
 Finds main (Some a) = (place : Pos) × (duty : Duty) × Undone main place duty × (said a ≡ says 1 (duty_line place duty))
+
+-- the bytes are one typed file, of which all forms are built
+pub record IsBuiltFile (bytes : List ℕ) (p : Program) : Type 0 where
+  pub file : IsTypedFile bytes p
+  pub only : (q : Program) → IsTypedFile bytes q → q ≡ p
+  pub built : first_unbuilt p ≡ None
 
 -- the file was accepted with this program
 pub record AcceptedAs (bytes : List ℕ) (p : Program) : Type 0 where

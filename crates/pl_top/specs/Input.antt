@@ -1,8 +1,7 @@
 -- The text of an input: a number on each line.
-use Rattle.std.specs.Prelude.{◌≡◌, ℕ, ℤ, pos, ◌+◌, ◌^◌, ◌==◌, ◌&&◌, nat_le, nat_lt, not, Bool, Option, Some, None, List, [], ◌∷◌, ◌++◌, Result, Ok, Err, length, if◌then◌else◌}
+use Rattle.std.specs.Prelude.{◌≡◌, ℕ, zero, suc, ℤ, pos, negsuc, ◌+◌, ◌^◌, ◌==◌, ◌&&◌, nat_le, nat_lt, not, Bool, Option, Some, None, List, [], ◌∷◌, ◌++◌, Result, Ok, Err, length, if◌then◌else◌}
 use Rattle.std.specs.List.{list_all}
 use Rattle.pl_base.specs.Tokens.{is_digit, digits_onto}
-use Rattle.pl_syntax.specs.Grammar.{negative}
 use Rattle.pl_top.specs.declared.input.InputError.{InputError}
 use Rattle.pl_top.specs.declared.input.InputError.TheVariants as e
 
@@ -27,6 +26,10 @@ are_digits ds = nat_le 1 (length ds) && nat_le (length ds) 19 && list_all is_dig
 -- a number of 64 bits with its sign, if it is one
 abbrev pub above : ℕ → Option ℤ
 above n = if nat_lt n (2 ^ 63) then Some (pos n) else None
+
+abbrev pub negative : ℕ → ℤ
+negative zero = pos 0
+negative (suc n) = negsuc n
 
 abbrev pub below : ℕ → Option ℤ
 below n = if nat_le n (2 ^ 63) then Some (negative n) else None

@@ -1,9 +1,13 @@
 -- What a command does where nothing outside fails and memory is enough.
-use Rattle.std.specs.Prelude.{◌≡◌, ◌⊎◌, ℕ, ◌+◌, ℤ, List, [], ◌∷◌, ◌++◌, Option, Some, None, Ok, Err, length}
+use Rattle.std.specs.Prelude.{◌≡◌, ℕ, ◌+◌, ℤ, List, [], ◌∷◌, ◌++◌, Option, Some, None, Ok, Err, length}
 use Rattle.pl_base.specs.declared.pos.Pos.{Pos}
 use Rattle.pl_base.specs.Outside.{Files}
 use Rattle.pl_syntax.specs.Tree.{FunDecl, Program}
-use Rattle.pl_syntax.specs.Grammar.{IsFile}
+use Rattle.pl_syntax.specs.Unbuilt.{first_unbuilt}
+use Rattle.pl_files.specs.declared.error.FileError.{FileError}
+use Rattle.pl_files.specs.declared.error.FileError.TheVariants as file
+use Rattle.pl_files.specs.Files.{IsFile, IsTypedFile, NoFile, NoTypedFile}
+use Rattle.pl_print.specs.ProgramText as canonical
 use Rattle.pl_walk.specs.declared.walk.Duty.{Duty}
 use Rattle.pl_walk.specs.Walk.{Undone, AllDone}
 use Rattle.pl_source.specs.Good.{Good}
@@ -29,8 +33,7 @@ use Rattle.c_history.specs.Replays.{Tells}
 use Rattle.c_history.specs.declared.replaying.Replayed.{Replayed}
 use Rattle.c_history.specs.declared.replaying.Replayed.TheVariants as replay
 use Rattle.pl_top.specs.Telling.{whole, long, Takes, Reads, Put}
-use Rattle.pl_top.specs.Limits.{IsLongNamed, AreNamesShort}
-use Rattle.pl_top.specs.Lines.{accepted, not_built, long_name_line, limit_file, limit_input, duty_line, c_line, history_line, input_line, outputs_text, end_line, follows_line, differs_line}
+use Rattle.pl_top.specs.Lines.{accepted, file_line, not_built_line, limit_file, limit_input, duty_line, c_line, history_line, input_line, outputs_text, end_line, follows_line, differs_line}
 use Rattle.pl_top.specs.Input.{input_of}
 
 -- the status of a command, the files that it puts, in order, and the text that it then prints
@@ -45,11 +48,11 @@ says status text = record { status = status; puts = []; text = text }
 
 -- ---- files
 
--- the bytes are a file of the small grammar, with this function and no other, and no name is too long
+-- the bytes are a typed file with this function and nothing else, of which all forms are built
 pub record IsFileOf (bytes : List ℕ) (main : FunDecl) : Type 0 where
-  pub file : IsFile bytes (program_of main)
-  pub only : (program : Program) → IsFile bytes program → program ≡ program_of main
-  pub short : AreNamesShort bytes
+  pub file : IsTypedFile bytes (program_of main)
+  pub only : (program : Program) → IsTypedFile bytes program → program ≡ program_of main
+  pub built : first_unbuilt (program_of main) ≡ None
 
 -- no duty of the file is left undone, and then the program is good: no run of it faults or races
 pub record IsAccepted (bytes : List ℕ) : Type 0 where
@@ -64,21 +67,43 @@ pub record IsUndone (bytes : List ℕ) (place : Pos) (duty : Duty) : Type 0 wher
   pub file : IsFileOf bytes main
   pub undone : Undone main place duty
 
--- no name is too long, and the bytes are no file of the small grammar
-pub record IsNotBuilt (bytes : List ℕ) : Type 0 where
-  pub short : AreNamesShort bytes
+-- the bytes are a typed file, whose first form that isn't built stands there
+pub record IsNotBuilt (bytes : List ℕ) (place : Pos) : Type 0 where
+  pub program : Program
+  pub file : IsTypedFile bytes program
+  pub first : first_unbuilt program ≡ Some place
+
+-- a reason that lies in the file: want of memory is none
+abbrev pub IsReason : FileError → Type 0
+IsReason file.Memory = ⊥
+IsReason _ = Unit {0}
+
+-- the bytes are no typed file, for this reason
+pub record IsUnread (bytes : List ℕ) (error : FileError) : Type 0 where
+  pub reason : IsReason error
+  pub why : NoTypedFile bytes error
+  pub none : (program : Program) → IsTypedFile bytes program → ⊥
+
+-- the same before types: the bytes are no file
+pub record IsUnparsed (bytes : List ℕ) (error : FileError) : Type 0 where
+  pub reason : IsReason error
+  pub why : NoFile bytes error
   pub none : (program : Program) → IsFile bytes program → ⊥
 
--- a name is too long, or the bytes are no file of the small grammar
-abbrev pub IsUnread : List ℕ → Type 0
-IsUnread bytes = ((place : Pos) × IsLongNamed bytes place) ⊎ IsNotBuilt bytes
+-- too many declarations pass a limit; for all other reasons the file is refused
+abbrev pub file_status : FileError → ℕ
+file_status (file.TooMany place) = 10
+file_status _ = 3
 
--- A file that isn't accepted is refused. Its first name that is too long is named, whatever else it holds; or that it isn't
--- built; or its first duty that is left undone
+-- what is said of a file that isn't read
+abbrev pub says_why : FileError → Outcome
+says_why error = says (file_status error) (file_line error)
+
+-- A file that isn't accepted is refused: it isn't read, or a form of it isn't built, or a duty of it is left undone
 pub data Refuses (bytes : List ℕ) : Outcome → Type 0 where
-  is_long_named : (place : Pos) → IsLongNamed bytes place → Refuses bytes (says 3 (long_name_line place))
+  is_unread : (error : FileError) → IsUnread bytes error → Refuses bytes (says_why error)
+  is_not_built : (place : Pos) → IsNotBuilt bytes place → Refuses bytes (says 3 (not_built_line place))
   is_undone : (place : Pos) (duty : Duty) → IsUndone bytes place duty → Refuses bytes (says 1 (duty_line place duty))
-  is_not_built : IsNotBuilt bytes → Refuses bytes (says 3 not_built)
 
 -- ---- the C of a file
 
@@ -187,6 +212,11 @@ pub data JudgesCheck (bytes : List ℕ) : Outcome → Type 0 where
   checked : IsAccepted bytes → JudgesCheck bytes (says 0 accepted)
   not_checked : (o : Outcome) → Refuses bytes o → JudgesCheck bytes o
 
+-- `fmt`
+pub data JudgesFmt (bytes : List ℕ) : Outcome → Type 0 where
+  formats : (program : Program) → IsFile bytes program → JudgesFmt bytes (says 0 (canonical.program_text program))
+  not_formatted : (error : FileError) → IsUnparsed bytes error → JudgesFmt bytes (says_why error)
+
 -- `emit` to the file of that name
 pub data JudgesEmit (bytes name : List ℕ) : Outcome → Type 0 where
   emits : (program : tree.Program) → IsEmitted bytes program → JudgesEmit bytes name (behind (put_text name program) (says 0 accepted))
@@ -234,6 +264,7 @@ pub data OfInput (told left : Option (List ℕ)) (Judges : List ℕ → Outcome 
 -- the order of the words, then the input is read, and then their texts are looked at
 abbrev pub Judged : Command → Option Files → Option (List ℕ) → Option (List ℕ) → Outcome → Type 0
 Judged (c.Check source jobs) files told left o = OfFile files source most_source told left (λ bytes said. (left ≡ told) × JudgesCheck bytes said) o
+Judged (c.Fmt source) files told left o = OfFile files source most_source told left (λ bytes said. (left ≡ told) × JudgesFmt bytes said) o
 Judged (c.Emit source name) files told left o = OfFile files source most_source told left (λ bytes said. (left ≡ told) × JudgesEmit bytes name said) o
 Judged (c.Go source name opts) files told left o = OfFile files source most_source told left (λ bytes. OfInput told left (JudgesGo bytes name opts)) o
 Judged (c.Run name opts) files told left o = OfFile files name most_text told left (λ bytes. OfInput told left (JudgesRun bytes opts)) o

@@ -2,13 +2,8 @@ pub mod Words
 pub mod Telling
 pub mod Lines
 pub mod Input
-pub mod Reading
 pub mod Judging
 pub mod Calls
-pub mod Leads
-pub mod Limits
-pub mod Forms
-pub mod Scopes
 pub mod Checks
 pub mod Runs
 pub mod Goes

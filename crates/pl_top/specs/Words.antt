@@ -12,7 +12,7 @@ use Rattle.pl_words.specs.Words.{refused, command_of}
 abbrev pub is_built : List ℕ → Bool
 is_built w =
     bytes_eq w (codes "check") || bytes_eq w (codes "emit") || bytes_eq w (codes "run") || bytes_eq w (codes "replay")
-    || bytes_eq w (codes "go")
+    || bytes_eq w (codes "go") || bytes_eq w (codes "fmt")
 
 -- the command that the words give, or the first wrong word
 abbrev pub asked_of : List (List ℕ) → Result Command WordError
@@ -23,6 +23,7 @@ asked_of (w ∷ rest) = if is_built w then command_of (w ∷ rest) else refused 
 abbrev pub Returns : Command → Type 0
 Returns (c.Check file jobs) = Unit {0}
 Returns (c.Emit file text) = Unit {0}
+Returns (c.Fmt file) = Unit {0}
 Returns (c.Replay text history) = Unit {0}
 Returns _ = ⊥
 
@@ -36,6 +37,7 @@ Runs _ = ⊥
 abbrev pub IsBuilt : Command → Type 0
 IsBuilt (c.Check file jobs) = Unit {0}
 IsBuilt (c.Emit file text) = Unit {0}
+IsBuilt (c.Fmt file) = Unit {0}
 IsBuilt (c.Run text run) = Unit {0}
 IsBuilt (c.Replay text history) = Unit {0}
 IsBuilt (c.Go file text run) = Unit {0}

@@ -12,7 +12,7 @@ ghost use Rattle.pl_top.specs.Goes.{CanPut, IsRunOf, HistoryFailed};
 ghost use Rattle.pl_top.specs.Calls.{Did, DidCommand};
 
 use crate::fetch::{Fault, Fetched, put_file, read_input, take_file, write_text};
-use crate::judge::{PlanError, check_bytes};
+use crate::judge::{PlanError, check_bytes, format_bytes};
 use crate::lines;
 use crate::plan::{plan_emit, plan_go, plan_replay, plan_run};
 use crate::run::run;
@@ -20,6 +20,7 @@ use c_history::write_history;
 use c_meaning::History;
 use c_syntax::CProgram;
 use pl_base::{Gate, Host};
+use pl_report::{Refusal, line_of};
 use pl_words::RunOpts;
 use std::alloc::Global;
 use std::sync::Wait;
@@ -56,7 +57,20 @@ fn say_too_long<H: Host>(alloc: Global, most: u64, host: &mut H) -> Result<u8, F
     ensures out_faults { Counts (is_out result) (H.out_faults host.old) (H.out_faults host.new) }
     ensures same { (H.files host.new ≡ H.files host.old) × (H.input host.new ≡ H.input host.old) }
 {
-    let line = lines::limit_file(alloc, most + 1)?;
+    let line = line_of(alloc, &Refusal::LimitFile(most + 1))?;
+    say(host, 10, line.as_slice())
+}
+
+// Says that the input has more bytes than may be.
+fn say_long_input<H: Host>(alloc: Global, host: &mut H) -> Result<u8, Fault>
+    ensures whole { IfOk result (λ s. (s ≡ 10) × Appends (H.out host.old) (H.out host.new) text.limit_input) }
+    ensures part { OnErr result (AppendsPart (H.out host.old) (H.out host.new) text.limit_input) }
+    ensures outward { is_in result ≡ false }
+    ensures in_faults { Counts (is_in result) (H.in_faults host.old) (H.in_faults host.new) }
+    ensures out_faults { Counts (is_out result) (H.out_faults host.old) (H.out_faults host.new) }
+    ensures same { (H.files host.new ≡ H.files host.old) × (H.input host.new ≡ H.input host.old) }
+{
+    let line = line_of(alloc, &Refusal::LimitInput(MOST_INPUT as u64 + 1))?;
     say(host, 10, line.as_slice())
 }
 
@@ -72,6 +86,23 @@ pub fn check_file<H: Host>(alloc: Global, source: &str, host: &mut H) -> Result<
     };
     match check_bytes(alloc, bytes.as_slice()) {
         Ok(_) => say(host, 0, lines::accepted()),
+        Err(PlanError::Refused(answer)) => say(host, answer.status, answer.text.as_slice()),
+        Err(PlanError::Memory) => Err(Fault::Memory),
+    }
+}
+
+/// `fmt F`
+pub fn format_file<H: Host>(alloc: Global, source: &str, host: &mut H) -> Result<u8, Fault>
+    ensures does { DidCommand (c.Fmt source.now) (H.files host.old) (H.files host.new) (H.input host.old) (H.input host.new) (H.out host.old) (H.out host.new) result }
+    ensures in_faults { Counts (is_in result) (H.in_faults host.old) (H.in_faults host.new) }
+    ensures out_faults { Counts (is_out result) (H.out_faults host.old) (H.out_faults host.new) }
+{
+    let file = take_file(host, source, MOST_SOURCE)?;
+    let Fetched::Bytes(bytes) = file else {
+        return say_too_long(alloc, MOST_SOURCE, host);
+    };
+    match format_bytes(alloc, bytes.as_slice()) {
+        Ok(answer) => say(host, answer.status, answer.text.as_slice()),
         Err(PlanError::Refused(answer)) => say(host, answer.status, answer.text.as_slice()),
         Err(PlanError::Memory) => Err(Fault::Memory),
     }
@@ -168,7 +199,7 @@ pub fn go_file<R: Threads + Wait + Sync, H: Host, G: Gate>(
     };
     let input = read_input(alloc, host, MOST_INPUT)?;
     let Fetched::Bytes(input) = input else {
-        return say(host, 10, lines::limit_input());
+        return say_long_input(alloc, host);
     };
     match plan_go(alloc, bytes.as_slice(), input.as_slice()) {
         Ok((emitted, numbers)) => {
@@ -208,7 +239,7 @@ pub fn run_file<R: Threads + Wait + Sync, H: Host, G: Gate>(
     };
     let input = read_input(alloc, host, MOST_INPUT)?;
     let Fetched::Bytes(input) = input else {
-        return say(host, 10, lines::limit_input());
+        return say_long_input(alloc, host);
     };
     match plan_run(alloc, bytes.as_slice(), input.as_slice()) {
         Ok((program, numbers)) => run_program(
@@ -246,7 +277,7 @@ pub fn replay_file<H: Host>(
     };
     let input = read_input(alloc, host, MOST_INPUT)?;
     let Fetched::Bytes(input) = input else {
-        return say(host, 10, lines::limit_input());
+        return say_long_input(alloc, host);
     };
     match plan_replay(alloc, bytes.as_slice(), events.as_slice(), input.as_slice()) {
         Ok(answer) => say(host, answer.status, answer.text.as_slice()),

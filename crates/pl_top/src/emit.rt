@@ -7,7 +7,7 @@ use c_syntax::CProgram;
 use c_text::write_c;
 use pl_base::Memory;
 use pl_erase::erase;
-use pl_syntax::Typed;
+use pl_syntax::Straight;
 use std::alloc::Global;
 
 /// A C program and its text.
@@ -17,11 +17,11 @@ pub struct Emitted {
     pub text: Vec<u8>,
 }
 
-/// The C program of a typed program, and its text.
-pub fn emit(alloc: Global, typed: &Typed) -> Result<Emitted, Memory>
-    ensures { IfOk result (IsEmission (plain_program typed.now)) }
+/// The C program of a straight program, and its text.
+pub fn emit(alloc: Global, straight: &Straight) -> Result<Emitted, Memory>
+    ensures { IfOk result (IsEmission (plain_program straight.now)) }
 {
-    let program = erase(alloc, typed)?;
+    let program = erase(alloc, straight)?;
     let text = write_c(alloc, &program)?;
     Ok(Emitted { program, text })
 }

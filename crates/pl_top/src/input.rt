@@ -1,10 +1,9 @@
 // The numbers of an input.
-ghost use Rattle.std.specs.Prelude.{◌≡◌, ◌≤◌, ◌<◌, ◌+◌, ◌^◌, ◌++◌, ◌∷◌, [], true, OnOk, length};
+ghost use Rattle.std.specs.Prelude.{◌≡◌, ◌≤◌, ◌<◌, ◌+◌, ◌^◌, ◌++◌, ◌∷◌, [], true, OnOk, MatchOption, length};
 ghost use Rattle.std.specs.List.{list_all, prefix_len};
 ghost use Rattle.pl_base.specs.Tokens as spelling;
 ghost use Rattle.pl_top.specs.Input as text;
 
-use crate::lexing::{is_digit, value_of};
 use pl_base::Memory;
 use std::alloc::Global;
 
@@ -27,6 +26,15 @@ impl From<Memory> for InputError {
     }
 }
 
+// The largest number without its sign.
+const LARGEST: u64 = 1 << 63;
+
+fn is_digit(byte: u8) -> bool
+    ensures { result ≡ spelling.is_digit byte }
+{
+    byte.is_ascii_digit()
+}
+
 fn all_digits(bytes: &[u8]) -> bool
     ensures { result ≡ list_all spelling.is_digit bytes.now }
 {
@@ -37,6 +45,22 @@ fn are_digits(bytes: &[u8]) -> bool
     ensures { result ≡ text.are_digits bytes.now }
 {
     1 <= bytes.len() && bytes.len() <= 19 && all_digits(bytes)
+}
+
+/// The number that digits spell, unless it is too large.
+fn value_of(digits: &[u8]) -> Option<u64>
+    requires { list_all spelling.is_digit digits.now ≡ true }
+    ensures { MatchOption result (2 ^ 63 < spelling.digits_onto 0 digits.now) (λ n. (spelling.digits_onto 0 digits.now ≡ n) × (n ≤ 2 ^ 63)) }
+{
+    let mut value: u64 = 0;
+    for byte in digits {
+        let digit = u64::from(byte.saturating_sub(b'0'));
+        if value > (LARGEST - digit) / 10 {
+            return None;
+        }
+        value = value * 10 + digit;
+    }
+    Some(value)
 }
 
 /// A number of digits, if it has 64 bits with its sign.

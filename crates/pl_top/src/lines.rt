@@ -1,14 +1,18 @@
-// The lines that are printed.
-ghost use Rattle.std.specs.Prelude.{◌≡◌, ◌++◌, IfOk, OnOk};
+// The lines that are printed: those of refusals, and those that are none.
+ghost use Rattle.std.specs.Prelude.{◌≡◌, ◌++◌, IfOk, codes, option_map};
+ghost use Rattle.c_history.specs.Text.{event_text};
+ghost use Rattle.pl_report.specs.Lines.{line_text, placed, IsLine};
+ghost use Rattle.pl_report.specs.declared.refusal.Refusal.TheVariants as r;
 ghost use Rattle.pl_top.specs.Lines as text;
+ghost use Rattle.pl_top.specs.Judging.{IsReason};
 
 use c_history::event_line;
 use c_meaning::Event;
 use c_runner::RunEnd;
-use pl_base::{Memory, Pos};
-use pl_resource::{Cell, Fault};
+use pl_base::{Items, Memory, Pos};
+use pl_files::FileError;
+use pl_report::{Refusal, line_of};
 use pl_walk::Duty;
-use pl_words::UsageKind;
 use std::alloc::Global;
 
 /// `accepted`
@@ -18,86 +22,21 @@ pub fn accepted() -> &'static [u8]
     b"accepted\n"
 }
 
-/// `limit file SIZE`
-pub fn limit_file(alloc: Global, size: u64) -> Result<Vec<u8>, Memory>
-    ensures { IfOk result (λ line. line.items ≡ text.limit_file size) }
+// `LINE:COLUMN: WORDS`
+fn placed(alloc: Global, pos: Pos, words: &str) -> Result<Vec<u8>, Memory>
+    ensures { IfOk result (λ line. line.items ≡ placed pos words.now) }
 {
-    Ok(format!(in alloc; "limit file {size}\n")?.into_bytes())
-}
-
-/// `limit input 1048577`
-pub fn limit_input() -> &'static [u8]
-    ensures { result.now ≡ text.limit_input }
-{
-    b"limit input 1048577\n"
-}
-
-fn kind_word(kind: UsageKind) -> &'static str
-    ensures { result.now ≡ text.kind_text kind }
-{
-    match kind {
-        UsageKind::NoCommand => "NoCommand",
-        UsageKind::UnknownCommand => "UnknownCommand",
-        UsageKind::UnknownOption => "UnknownOption",
-        UsageKind::MissingValue => "MissingValue",
-        UsageKind::Repeated => "Repeated",
-        UsageKind::BadNumber => "BadNumber",
-        UsageKind::ExtraWord => "ExtraWord",
-        UsageKind::MissingWord => "MissingWord",
-    }
-}
-
-/// `usage: KIND at PLACE`
-pub fn usage_line(alloc: Global, kind: UsageKind, place: u32) -> Result<Vec<u8>, Memory>
-    ensures { IfOk result (λ line. line.items ≡ text.usage_line kind place) }
-{
-    let kind = kind_word(kind);
-    let line = format!(in alloc; "usage: {kind} at {place}\n")?;
-    Ok(line.into_bytes())
-}
-
-/// `LINE:COLUMN: missing TEXT` or `LINE:COLUMN: leftover TEXT`
-pub fn duty_line(alloc: Global, pos: Pos, duty: &Duty) -> Result<Vec<u8>, Memory>
-    ensures { IfOk result (λ line. line.items ≡ text.duty_line pos duty.now) }
-{
-    let (word, words) = match duty {
-        Duty::Missing(words) => ("missing ", words.as_slice()),
-        Duty::Leftover(words) => ("leftover ", words.as_slice()),
-    };
     let (at, column) = (pos.line, pos.col);
-    let mut line = format!(in alloc; "{at}:{column}: {word}")?.into_bytes();
-    line.extend_from_slice(words)?;
+    let mut line = format!(in alloc; "{at}:{column}: {words}")?.into_bytes();
     line.push(b'\n')?;
     Ok(line)
 }
 
-/// `LINE:COLUMN: long name`
-pub fn long_name_line(alloc: Global, pos: Pos) -> Result<Vec<u8>, Memory>
-    ensures { IfOk result (λ line. line.items ≡ text.long_name_line pos) }
+/// `LINE:COLUMN: not built`
+pub fn not_built_line(alloc: Global, pos: Pos) -> Result<Vec<u8>, Memory>
+    ensures { IfOk result (λ line. line.items ≡ text.not_built_line pos) }
 {
-    let (at, column) = (pos.line, pos.col);
-    Ok(format!(in alloc; "{at}:{column}: long name\n")?.into_bytes())
-}
-
-/// `C byte N`
-pub fn c_line(alloc: Global, byte: u32) -> Result<Vec<u8>, Memory>
-    ensures { IfOk result (λ line. line.items ≡ text.c_line byte) }
-{
-    Ok(format!(in alloc; "C byte {byte}\n")?.into_bytes())
-}
-
-/// `history line N`
-pub fn history_line(alloc: Global, line: u32) -> Result<Vec<u8>, Memory>
-    ensures { IfOk result (λ said. said.items ≡ text.history_line line) }
-{
-    Ok(format!(in alloc; "history line {line}\n")?.into_bytes())
-}
-
-/// `input line N`
-pub fn input_line(alloc: Global, line: u32) -> Result<Vec<u8>, Memory>
-    ensures { IfOk result (λ said. said.items ≡ text.input_line line) }
-{
-    Ok(format!(in alloc; "input line {line}\n")?.into_bytes())
+    placed(alloc, pos, "not built")
 }
 
 /// A number that was printed.
@@ -107,71 +46,6 @@ pub fn number_line(alloc: Global, number: i64) -> Result<Vec<u8>, Memory>
     Ok(format!(in alloc; "{number}\n")?.into_bytes())
 }
 
-// `race of S and T at CELL`
-fn race_text(alloc: Global, s: u32, t: u32, cell: Cell) -> Result<Vec<u8>, Memory>
-    ensures { IfOk result (λ words. words.items ≡ text.race_text s t cell) }
-{
-    let (block, index, field) = (cell.block, cell.index, cell.field);
-    let mut words = format!(in alloc; "race of {s} and {t} at ")?.into_bytes();
-    let place = format!(in alloc; "b{block}.{index}.{field}")?.into_bytes();
-    words.extend_from_slice(place.as_slice())?;
-    Ok(words)
-}
-
-fn fault_words(fault: Fault) -> &'static str
-    ensures { result.now ≡ text.fault_words fault }
-{
-    match fault {
-        Fault::Dead => "dead block",
-        Fault::Outside => "outside",
-        Fault::Kind => "wrong kind",
-        Fault::Null => "null",
-        Fault::Overflow => "overflow",
-        Fault::ZeroDivisor => "zero divisor",
-        Fault::LockFreed => "freed lock",
-        Fault::LockFree => "free lock",
-        Fault::GhostMissing => "ghost cell",
-    }
-}
-
-// `fault of T: WORDS`
-fn fault_text(alloc: Global, thread: u32, fault: Fault) -> Result<Vec<u8>, Memory>
-    ensures { IfOk result (λ words. words.items ≡ text.fault_text thread fault) }
-{
-    let words = fault_words(fault);
-    Ok(format!(in alloc; "fault of {thread}: {words}")?.into_bytes())
-}
-
-// `WORDS after N events`
-fn after_events(alloc: Global, words: &[u8], events: u32) -> Result<Vec<u8>, Memory>
-    ensures { IfOk result (λ line. line.items ≡ text.after_events words.now events) }
-{
-    let mut line = Vec::from_slice(alloc, words)?;
-    let count = format!(in alloc; " after {events} events\n")?.into_bytes();
-    line.extend_from_slice(count.as_slice())?;
-    Ok(line)
-}
-
-/// The line of an end after so many events: none where the run came to its end.
-pub fn end_line(alloc: Global, end: RunEnd, events: u32) -> Result<Vec<u8>, Memory>
-    ensures { IfOk result (λ line. line.items ≡ text.end_line events end) }
-{
-    match end {
-        RunEnd::Ended => Ok(Vec::new(alloc)),
-        RunEnd::Race(s, t, cell) => {
-            let words = race_text(alloc, s, t, cell)?;
-            after_events(alloc, words.as_slice(), events)
-        }
-        RunEnd::CFault(thread, fault) => {
-            let words = fault_text(alloc, thread, fault)?;
-            after_events(alloc, words.as_slice(), events)
-        }
-        RunEnd::Deadlock => after_events(alloc, b"deadlock", events),
-        RunEnd::ThreadLimit => Ok(Vec::from_slice(alloc, b"limit threads 1024\n")?),
-        RunEnd::StepBound => after_events(alloc, b"bound", events),
-    }
-}
-
 /// `follows N events`
 pub fn follows_line(alloc: Global, events: u32) -> Result<Vec<u8>, Memory>
     ensures { IfOk result (λ line. line.items ≡ text.follows_line events) }
@@ -179,12 +53,95 @@ pub fn follows_line(alloc: Global, events: u32) -> Result<Vec<u8>, Memory>
     Ok(format!(in alloc; "follows {events} events\n")?.into_bytes())
 }
 
-fn expected_text(alloc: Global, expected: &Option<Event>) -> Result<Vec<u8>, Memory>
-    ensures { IfOk result (λ words. words.items ≡ text.expected_text expected.now) }
+// More declarations than may be.
+fn too_many(alloc: Global, pos: Pos) -> Result<Refusal, Memory>
+    ensures { IfOk result (λ refusal. refusal ≡ r.Limit pos (codes "declarations") 4097) }
+{
+    let kind = Vec::from_slice(alloc, b"declarations")?;
+    Ok(Refusal::Limit(pos, Items::of(kind), 4097))
+}
+
+// Why a file isn't read, as a refusal.
+fn file_refusal(alloc: Global, error: &FileError) -> Result<Refusal, Memory>
+    ensures reason { IfOk result (λ _. IsReason error.now) }
+    ensures line { IfOk result (λ refusal. line_text refusal ≡ text.file_line error.now) }
+    ensures has { IfOk result IsLine }
+{
+    match error {
+        FileError::BadUtf8(byte) => Ok(Refusal::BadUtf8(*byte)),
+        FileError::BadChar(pos) => Ok(Refusal::BadChar(*pos)),
+        FileError::LongNumber(pos) => Ok(Refusal::LongNumber(*pos)),
+        FileError::LongName(pos) => Ok(Refusal::LongName(*pos)),
+        FileError::Syntax(pos) => Ok(Refusal::Syntax(*pos)),
+        FileError::Deep(pos) => Ok(Refusal::Deep(*pos)),
+        FileError::TooMany(pos) => too_many(alloc, *pos),
+        FileError::Unknown(pos) => Ok(Refusal::Unknown(*pos)),
+        FileError::Twice(pos) => Ok(Refusal::Twice(*pos)),
+        FileError::IllTyped(pos) => Ok(Refusal::IllTyped(*pos)),
+        FileError::GhostFlow(pos) => Ok(Refusal::GhostFlow(*pos)),
+        FileError::Opening(pos) => Ok(Refusal::Opening(*pos)),
+        FileError::Measure(pos) => Ok(Refusal::Measure(*pos)),
+        FileError::NoMain => Ok(Refusal::NoMain),
+        FileError::Memory => Err(Memory),
+    }
+}
+
+/// Why a file isn't read.
+///
+/// # Errors
+///
+/// Want of memory, also where that is why.
+pub fn file_line(alloc: Global, error: &FileError) -> Result<Vec<u8>, Memory>
+    ensures reason { IfOk result (λ _. IsReason error.now) }
+    ensures line { IfOk result (λ line. line.items ≡ text.file_line error.now) }
+{
+    let refusal = file_refusal(alloc, error)?;
+    line_of(alloc, &refusal)
+}
+
+// A duty that is left undone, as a refusal.
+fn duty_refusal(pos: Pos, duty: Duty) -> Refusal
+    ensures line { line_text result ≡ text.duty_line pos duty }
+    ensures has { IsLine result }
+{
+    match duty {
+        Duty::Missing(words) => Refusal::Missing(pos, words),
+        Duty::Leftover(words) => Refusal::Leftover(pos, words),
+    }
+}
+
+/// `LINE:COLUMN: missing TEXT` or `LINE:COLUMN: leftover TEXT`
+pub fn duty_line(alloc: Global, pos: Pos, duty: Duty) -> Result<Vec<u8>, Memory>
+    ensures { IfOk result (λ line. line.items ≡ text.duty_line pos duty) }
+{
+    let refusal = duty_refusal(pos, duty);
+    line_of(alloc, &refusal)
+}
+
+/// The line of an end after so many events: none where the run came to its end.
+pub fn end_line(alloc: Global, end: RunEnd, events: u32) -> Result<Vec<u8>, Memory>
+    requires { text.HasLine end }
+    ensures { IfOk result (λ line. line.items ≡ text.end_line events end) }
+{
+    match end {
+        RunEnd::Ended => Ok(Vec::new(alloc)),
+        RunEnd::Race(s, t, cell) => line_of(alloc, &Refusal::Race(s, t, cell, events)),
+        RunEnd::CFault(thread, fault) => {
+            line_of(alloc, &Refusal::Faulted(thread, fault, events))
+        }
+        RunEnd::Deadlock => line_of(alloc, &Refusal::Deadlock(events)),
+        RunEnd::ThreadLimit => line_of(alloc, &Refusal::LimitThreads),
+        RunEnd::StepBound => line_of(alloc, &Refusal::Bound(events)),
+    }
+}
+
+// The text of an event, if there is one.
+fn expected_text(alloc: Global, expected: &Option<Event>) -> Result<Option<Items<u8>>, Memory>
+    ensures { IfOk result (λ words. words ≡ option_map event_text expected.now) }
 {
     match expected {
-        None => Ok(Vec::from_slice(alloc, b"nothing")?),
-        Some(event) => event_line(alloc, event),
+        None => Ok(None),
+        Some(event) => Ok(Some(Items::of(event_line(alloc, event)?))),
     }
 }
 
@@ -198,11 +155,6 @@ pub fn differs_line(
     ensures { IfOk result (λ line. line.items ≡ text.differs_line k expected.now found.now) }
 {
     let expected = expected_text(alloc, expected)?;
-    let found = event_line(alloc, found)?;
-    let mut line = format!(in alloc; "differs at {k}: expected ")?.into_bytes();
-    line.extend_from_slice(expected.as_slice())?;
-    line.extend_from_slice(b", found ")?;
-    line.extend_from_slice(found.as_slice())?;
-    line.push(b'\n')?;
-    Ok(line)
+    let found = Items::of(event_line(alloc, found)?);
+    line_of(alloc, &Refusal::Differs(k, expected, found))
 }

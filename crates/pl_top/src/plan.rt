@@ -16,6 +16,8 @@ use c_meaning::History;
 use c_reader::{ReadCError, read_c};
 use c_syntax::CProgram;
 use pl_base::Memory;
+use pl_files::names_are_proper;
+use pl_report::{Refusal, line_of};
 use std::alloc::Global;
 
 // The C program of which the bytes are the text.
@@ -27,7 +29,7 @@ fn c_of(alloc: Global, bytes: &[u8]) -> Result<CProgram, PlanError>
     match read_c(alloc, bytes) {
         Ok(program) => Ok(program),
         Err(ReadCError::NotFragment(byte)) => {
-            let text = lines::c_line(alloc, byte)?;
+            let text = line_of(alloc, &Refusal::CByte(byte))?;
             Err(PlanError::Refused(Answer { status: 3, text }))
         }
         Err(ReadCError::Memory) => Err(PlanError::Memory),
@@ -44,7 +46,7 @@ fn history_of(alloc: Global, bytes: &[u8]) -> Result<History, PlanError>
     match read_history(alloc, bytes) {
         Ok(history) => Ok(history),
         Err(HistoryError::BadHistory(line)) => {
-            let text = lines::history_line(alloc, line)?;
+            let text = line_of(alloc, &Refusal::HistoryLine(line))?;
             Err(PlanError::Refused(Answer { status: 3, text }))
         }
         Err(HistoryError::Memory) => Err(PlanError::Memory),
@@ -60,7 +62,7 @@ fn numbers_of(alloc: Global, input: &[u8]) -> Result<Vec<i64>, PlanError>
     match read_numbers(alloc, input) {
         Ok(numbers) => Ok(numbers),
         Err(InputError::Line(line)) => {
-            let text = lines::input_line(alloc, line)?;
+            let text = line_of(alloc, &Refusal::InputLine(line))?;
             Err(PlanError::Refused(Answer { status: 3, text }))
         }
         Err(InputError::Memory) => Err(PlanError::Memory),
@@ -73,8 +75,9 @@ pub fn plan_emit(alloc: Global, bytes: &[u8]) -> Result<Emitted, PlanError>
     ensures emits { IfOk result (IsProgramOf bytes.now) }
     ensures refused { IfErr result (λ e. IfRefused e (Refuses bytes.now)) }
 {
-    let typed = check_bytes(alloc, bytes)?;
-    Ok(emit(alloc, &typed)?)
+    let straight = check_bytes(alloc, bytes)?;
+    names_are_proper();
+    Ok(emit(alloc, &straight)?)
 }
 
 /// What `go` puts and runs, and on which numbers, by a file's bytes and an input's.

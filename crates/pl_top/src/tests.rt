@@ -63,7 +63,40 @@ fn a_file_is_checked(rt: HostRuntime) -> Result<(), Fail> {
             1,
             "4:3: missing r |-> _\n",
         ),
-        (b"".as_slice(), 3, "not built\n"),
+        (b"".as_slice(), 3, "no main\n"),
+        (b"\xff".as_slice(), 3, "bad UTF-8 at 0\n"),
+        (b"fn fn $".as_slice(), 3, "1:7: bad character\n"),
+        (
+            b"fn main() { print(170141183460469231731687303715884105728); }".as_slice(),
+            3,
+            "1:19: long number\n",
+        ),
+        (
+            b"fn fn __________________________() { }".as_slice(),
+            3,
+            "1:7: long name\n",
+        ),
+        (b"fn main() {\n".as_slice(), 3, "2:1: syntax\n"),
+        (
+            b"fn main() { let x = !r; }".as_slice(),
+            3,
+            "1:13: unknown name\n",
+        ),
+        (
+            b"fn f() { } fn f() { } fn main() { }".as_slice(),
+            3,
+            "1:15: name twice\n",
+        ),
+        (
+            b"fn main() { let x = 1 + true; }".as_slice(),
+            3,
+            "1:25: ill typed\n",
+        ),
+        (
+            b"fn main() {\n  // 1 + 1\n  let x = 1 + 1;\n}\n".as_slice(),
+            3,
+            "3:3: not built\n",
+        ),
     ] {
         let mut host = SteadyHost::new(alloc, one_file(alloc, bytes)?, Vec::new(alloc));
         assert_eq!(rt;
@@ -71,6 +104,61 @@ fn a_file_is_checked(rt: HostRuntime) -> Result<(), Fail> {
             status
         );
         assert_eq!(rt; host.out(), line.as_bytes());
+    }
+    Ok(())
+}
+
+#[test]
+fn a_file_is_formatted(rt: HostRuntime) -> Result<(), Fail> {
+    let alloc = rt.alloc();
+    let words = words_of(alloc, &["fmt", "f"])?;
+    for (bytes, status, line) in [
+        (
+            b"fn main(){print(1);}".as_slice(),
+            0,
+            "fn main() {\n  print(1);\n}\n",
+        ),
+        (
+            b"fn f(){print(- x);}//".as_slice(),
+            0,
+            "fn f() {\n  print(-x);\n}\n",
+        ),
+        (b"".as_slice(), 0, ""),
+        (
+            b"fn main() { print(12ab); }".as_slice(),
+            3,
+            "1:21: syntax\n",
+        ),
+    ] {
+        let mut host = SteadyHost::new(alloc, one_file(alloc, bytes)?, Vec::new(alloc));
+        assert_eq!(rt;
+            pulse_main(&rt, alloc, words.as_slice(), &mut host, &NullGate),
+            status
+        );
+        assert_eq!(rt; host.out(), line.as_bytes());
+    }
+    Ok(())
+}
+
+// An empty text is printed by no write.
+#[test]
+fn each_call_of_a_format_fails_once(rt: HostRuntime) -> Result<(), Fail> {
+    let alloc = rt.alloc();
+    let words = words_of(alloc, &["fmt", "f"])?;
+    for (bytes, k, status) in [
+        (FIRST, 0, 4),
+        (FIRST, 1, 5),
+        (FIRST, 2, 0),
+        (b"".as_slice(), 0, 4),
+        (b"".as_slice(), 1, 0),
+    ] {
+        let mut fails = Vec::new(alloc);
+        fails.push(k)?;
+        let mut host = MemoryHost::new(alloc, one_file(alloc, bytes)?, Vec::new(alloc), fails);
+        assert_eq!(rt;
+            pulse_main(&rt, alloc, words.as_slice(), &mut host, &NullGate),
+            status
+        );
     }
     Ok(())
 }
@@ -213,7 +301,7 @@ fn a_file_is_emitted(rt: HostRuntime) -> Result<(), Fail> {
             1,
             "3:1: leftover r |-> 5 ** block(r, 1)\n",
         ),
-        (b"".as_slice(), 3, "not built\n"),
+        (b"".as_slice(), 3, "no main\n"),
     ] {
         let mut host = SteadyHost::new(alloc, one_file(alloc, bytes)?, Vec::new(alloc));
         assert_eq!(rt;

@@ -7,11 +7,11 @@ ghost use Rattle.pl_top.specs.Telling.{HasCauses, Untouched, is_in, is_out, told
 ghost use Rattle.pl_top.specs.Words.{asked_of, Returns, Runs, IsBuilt};
 ghost use Rattle.pl_top.specs.Calls.{DidCommand, CommandKeeps, PartDone, Promised, IsExactFor};
 
-use crate::commands::{check_file, emit_file, go_file, replay_file, run_file};
+use crate::commands::{check_file, emit_file, format_file, go_file, replay_file, run_file};
 use crate::fetch::{Fault, write_text};
-use crate::lines;
 use crate::words::read_command;
 use pl_base::{Gate, Host, Memory};
+use pl_report::{Refusal, line_of};
 use pl_words::{Command, UsageKind, WordError};
 use std::alloc::Global;
 use std::sync::Wait;
@@ -39,12 +39,13 @@ fn check_answer<H: Host>(alloc: Global, command: &Command, host: &mut H) -> Resu
     match command {
         Command::Check(source, _) => check_file(alloc, source.text(), host),
         Command::Emit(source, name) => emit_file(alloc, source.text(), name.text(), host),
+        Command::Fmt(source) => format_file(alloc, source.text(), host),
         Command::Replay(name, history) => replay_file(alloc, name.text(), history.text(), host),
         _ => unreachable!(),
     }
 }
 
-/// Answers `check`, `emit` or `replay`. It takes no lock, and always returns.
+/// Answers `check`, `emit`, `fmt` or `replay`. It takes no lock, and always returns.
 ///
 /// `check` is done by one worker, whatever the number of jobs: a file has one function.
 ///
@@ -120,7 +121,7 @@ fn refuse_words<H: Host>(alloc: Global, kind: UsageKind, place: u32, host: &mut 
     ensures untouched { result ≡ 4 → Untouched (H.files host.old) (H.files host.new) (H.out host.old) (H.out host.new) }
     ensures causes { HasCauses result (H.in_faults host.old) (H.in_faults host.new) (H.out_faults host.old) (H.out_faults host.new) }
 {
-    let Ok(line) = lines::usage_line(alloc, kind, place) else {
+    let Ok(line) = line_of(alloc, &Refusal::Usage(kind, place)) else {
         return 6;
     };
     match write_text(host, line.as_slice()) {
@@ -153,7 +154,7 @@ fn answer<R: Threads + Wait + Sync, H: Host, G: Gate>(
 ///
 /// | Status | Where |
 /// |---|---|
-/// | 0 | accepted, a run ended, or a history is one of a run |
+/// | 0 | accepted, printed, a run ended, or a history is one of a run |
 /// | 1 | a duty is left undone, or a history is none of a run |
 /// | 2 | the words are refused |
 /// | 3 | a file or the input is refused |

@@ -10,11 +10,16 @@ use std::alloc::Global;
 fn is_built(word: &str) -> bool
     ensures { result ≡ rule.is_built word.now }
 {
-    word == "check" || word == "emit" || word == "run" || word == "replay" || word == "go"
+    word == "check"
+        || word == "emit"
+        || word == "run"
+        || word == "replay"
+        || word == "go"
+        || word == "fmt"
 }
 
 /// The command that the words give, or the first wrong word. The commands `check F [--jobs N]`, `emit F -o C`,
-/// `run C [--steps N] [--workers W] [--history H]`, `replay C H` and
+/// `fmt F`, `run C [--steps N] [--workers W] [--history H]`, `replay C H` and
 /// `go F -o C [--steps N] [--workers W] [--history H]` are built.
 pub fn read_command(alloc: Global, words: &[String]) -> Result<Command, WordError>
     ensures told { Tells result (rule.asked_of (map string_bytes words.now)) }

@@ -7,16 +7,16 @@ use Rattle.pl_syntax.specs.declared.expr.Sort.{Sort}
 use Rattle.pl_syntax.specs.declared.expr.Sort.TheVariants as sort
 use Rattle.pl_syntax.specs.Tree as t
 use Rattle.pl_syntax.specs.Tree.{Name, Expr, Prop, Stmts, Braced, Else}
-use Rattle.pl_types.specs.declared.breach.Breach.{Breach}
-use Rattle.pl_types.specs.declared.spots.Spot.{Spot}
-use Rattle.pl_types.specs.declared.spots.Inside.TheVariants.{Direct}
-use Rattle.pl_types.specs.Breaches.{earlier, least}
-use Rattle.pl_types.specs.Exprs.{sorted, wanted}
+use Rattle.pl_syntax.specs.declared.rules.Breach.{Breach}
+use Rattle.pl_syntax.specs.declared.rules.Spot.{Spot}
+use Rattle.pl_syntax.specs.declared.rules.Inside.TheVariants.{Direct}
+use Rattle.pl_syntax.specs.Breaches.{earlier, least}
+use Rattle.pl_syntax.specs.ExprRules.{sorted, wanted}
 use Rattle.pl_types.specs.Held.{lent}
-use Rattle.pl_types.specs.Known.{Known}
-use Rattle.pl_types.specs.Props.{after_breaches, prop_breaches}
-use Rattle.pl_types.specs.Scopes.{Scope}
-use Rattle.pl_types.specs.Stmts.{condition, under, move_to, real, real_breaches, block_breaches, is_ghost_block, is_ghost_else, behind_all, behind_block, stmt_breaches, stmts_breaches, braced_breaches, else_breaches}
+use Rattle.pl_syntax.specs.Known.{Known}
+use Rattle.pl_syntax.specs.PropRules.{after_breaches, prop_breaches}
+use Rattle.pl_syntax.specs.Scopes.{Scope}
+use Rattle.pl_syntax.specs.StmtRules.{condition, under, move_to, real, real_breaches, block_breaches, is_ghost_block, is_ghost_else, behind_all, behind_block, stmt_breaches, stmts_breaches, braced_breaches, else_breaches}
 use Rattle.pl_types.proofs.Leasts.{least_append}
 use Rattle.pl_types.proofs.ScopeLaws.{left_loop}
 

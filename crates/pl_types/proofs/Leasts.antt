@@ -1,8 +1,8 @@
 -- Laws of the first of breaches.
 use Rattle.std.proofs.Common.{◌≡◌, ◌∙◌, sym, ap, refl, ℕ, Bool, true, false, cond, Option, Some, None, List, [], ◌∷◌, ◌++◌, arith}
 use Rattle.std.proofs.lemmas.Bool.Decides.{nat_tests}
-use Rattle.pl_types.specs.declared.breach.Breach.{Breach}
-use Rattle.pl_types.specs.Breaches.{group, rank, precedes, comes_before, earlier, first, least, or_else}
+use Rattle.pl_syntax.specs.declared.rules.Breach.{Breach}
+use Rattle.pl_syntax.specs.Breaches.{group, rank, precedes, comes_before, earlier, first, least, or_else}
 
 -- the lesser number goes first: through a third
 through : (m n k : ℕ) (r s t : Bool) → (r ≡ true → s ≡ true → t ≡ true) → precedes m n r ≡ true → precedes n k s ≡ true → precedes m k t ≡ true

@@ -6,6 +6,6 @@ pub mod SeenLaws
 pub mod StmtLaws
 pub mod TableLaws
 pub mod TreeLaws
-pub mod ViewLaws
 pub mod WrittenLaws
 pub mod ZipLaws
+pub mod SlotLaws

@@ -7,12 +7,12 @@ use Rattle.pl_syntax.specs.declared.expr.Class.{Class}
 use Rattle.pl_syntax.specs.declared.expr.Sort.{Sort}
 use Rattle.pl_syntax.specs.Tree as t
 use Rattle.pl_syntax.specs.Tree.{Name, CellExpr, Stmt, Stmts, Braced}
-use Rattle.pl_types.specs.declared.binders.Role.{Role}
-use Rattle.pl_types.specs.declared.binders.Role.TheVariants.{Bound}
-use Rattle.pl_types.specs.Scopes.{Scope, bind, read_as}
-use Rattle.pl_types.specs.Known.{Known}
-use Rattle.pl_types.specs.Props.{bind_all, class_in}
-use Rattle.pl_types.specs.Stmts.{bind_result, bind_load, bound_by, behind, behind_all, behind_block}
+use Rattle.pl_syntax.specs.declared.rules.Role.{Role}
+use Rattle.pl_syntax.specs.declared.rules.Role.TheVariants.{Bound}
+use Rattle.pl_syntax.specs.Scopes.{Scope, bind, read_as}
+use Rattle.pl_syntax.specs.Known.{Known}
+use Rattle.pl_syntax.specs.PropRules.{bind_all, class_in}
+use Rattle.pl_syntax.specs.StmtRules.{bind_result, bind_load, bound_by, behind, behind_all, behind_block}
 
 -- the names that were in scope are so still, behind the new ones
 abbrev pub Grows : Scope → Scope → Type 0

@@ -4,12 +4,12 @@ use Rattle.std.proofs.lemmas.Bool.Decides.{nat_tests}
 use Rattle.pl_syntax.specs.declared.expr.Sort.{Sort}
 use Rattle.pl_syntax.specs.declared.stmt.Stmt as stmt
 use Rattle.pl_syntax.specs.Plain.{plain_stmt, plain_stmts}
-use Rattle.pl_types.specs.declared.breach.Breach.{Breach}
-use Rattle.pl_types.specs.declared.spots.Spot.{Spot}
-use Rattle.pl_types.specs.Breaches.{earlier, least}
-use Rattle.pl_types.specs.Known.{Known}
-use Rattle.pl_types.specs.Scopes.{Scope}
-use Rattle.pl_types.specs.Stmts.{at_end, is_ghost, are_ghost, behind, behind_all, stmt_breaches, stmts_breaches}
+use Rattle.pl_syntax.specs.declared.rules.Breach.{Breach}
+use Rattle.pl_syntax.specs.declared.rules.Spot.{Spot}
+use Rattle.pl_syntax.specs.Breaches.{earlier, least}
+use Rattle.pl_syntax.specs.Known.{Known}
+use Rattle.pl_syntax.specs.Scopes.{Scope}
+use Rattle.pl_syntax.specs.StmtRules.{at_end, is_ghost, are_ghost, behind, behind_all, stmt_breaches, stmts_breaches}
 use Rattle.pl_types.proofs.Leasts.{fold_least}
 
 two_more : (n : ℕ) → (1 + suc n == 1) ≡ false

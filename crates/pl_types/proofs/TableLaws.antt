@@ -7,7 +7,7 @@ use Rattle.std.proofs.lemmas.Cmp.{nat_list_eq_equiv}
 use Rattle.pl_syntax.specs.declared.expr.Binder.{Binder}
 use Rattle.pl_types.specs.declared.tables.Callee.{Callee}
 use Rattle.pl_types.specs.Held.{lent}
-use Rattle.pl_types.specs.Known.{Placed}
+use Rattle.pl_syntax.specs.Known.{Placed}
 use Rattle.pl_types.specs.Tables.{callee, placed}
 
 lent_cond : (b : Bool) (v : Bor (List Binder)) (o : Option (Bor (List Binder))) → lent (cond b (Some v) o) ≡ cond b (Some v.now) (lent o)

@@ -7,7 +7,7 @@ use Rattle.pl_syntax.specs.declared.expr.Binder.{Binder}
 use Rattle.pl_syntax.specs.declared.stmt.Init as init
 use Rattle.pl_syntax.specs.Plain.{plain_init}
 use Rattle.pl_types.specs.Held.{lent}
-use Rattle.pl_types.specs.Stmts.{is_field, same_fields}
+use Rattle.pl_syntax.specs.StmtRules.{is_field, same_fields}
 use Rattle.pl_types.proofs.Drops.{slice_get_drop, drop-drop_one}
 
 pub lent_some : {X : Type 0} (o : Option (Bor X)) → is_some (lent o) ≡ is_some o

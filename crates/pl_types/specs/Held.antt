@@ -12,9 +12,9 @@ use Rattle.pl_types.specs.declared.exprs.Want.{Want}
 use Rattle.pl_types.specs.declared.exprs.Want.TheVariants as w
 use Rattle.pl_types.specs.declared.cells.Content.{Content}
 use Rattle.pl_types.specs.declared.cells.Content.TheVariants as c
-use Rattle.pl_types.specs.Scopes.{Bound}
-use Rattle.pl_types.specs.Exprs as x
-use Rattle.pl_types.specs.Props as p
+use Rattle.pl_syntax.specs.Scopes.{Bound}
+use Rattle.pl_syntax.specs.ExprRules as x
+use Rattle.pl_syntax.specs.PropRules as p
 
 -- the sort that is passed
 abbrev pub sort : Kind → Sort

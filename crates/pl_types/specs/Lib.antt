@@ -1,10 +1,4 @@
-pub mod Breaches
-pub mod Scopes
-pub mod Known
-pub mod Exprs
-pub mod Props
-pub mod Stmts
-pub mod Decls
-pub mod Typing
+pub mod Refusals
 pub mod Held
 pub mod Tables
+pub mod Slots

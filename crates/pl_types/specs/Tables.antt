@@ -11,7 +11,7 @@ use Rattle.pl_types.specs.declared.seen.Seen as seen
 use Rattle.pl_types.specs.declared.tables.Callee.{Callee}
 use Rattle.pl_types.specs.declared.tables.Tables as tables
 use Rattle.pl_types.specs.Held.{lent}
-use Rattle.pl_types.specs.Known.{Known, Placed, Taken}
+use Rattle.pl_syntax.specs.Known.{Known, Placed, Taken}
 
 abbrev pub taken_in : seen.Seen → Taken
 taken_in s = λ q. is_some (get_by (λ k. bytes_eq q k.now) s.names)

@@ -3,12 +3,12 @@
 ghost use Rattle.std.specs.Prelude.{◌≡◌, ◌||◌, false};
 ghost use Rattle.std.specs.Option.{is_some};
 ghost use Rattle.pl_syntax.specs.Plain.{plain_block, plain_stmt, plain_stmts};
-ghost use Rattle.pl_types.specs.Breaches.{least};
-ghost use Rattle.pl_types.specs.Stmts as spec;
+ghost use Rattle.pl_syntax.specs.Breaches.{least};
+ghost use Rattle.pl_syntax.specs.StmtRules as spec;
 
-use crate::breach::{Breach, Rule, earlier, unless};
+use crate::breach::{earlier, unless};
 use pl_base::Pos;
-use pl_syntax::{Stmt, Stmts};
+use pl_syntax::{Breach, Rule, Stmt, Stmts};
 
 /// The place of an atomic action.
 fn action_place(s: &Stmt) -> Option<Pos>

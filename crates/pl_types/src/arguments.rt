@@ -2,20 +2,20 @@
 
 ghost use Rattle.std.specs.Prelude.{◌≡◌, map, length, drop};
 ghost use Rattle.std.specs.List.{slice_get};
-ghost use Rattle.pl_types.specs.declared.exprs.Mode.TheVariants as mode;
+ghost use Rattle.pl_syntax.specs.declared.rules.Mode.TheVariants as mode;
 ghost use Rattle.pl_syntax.specs.Plain.{plain_expr, plain_instance};
-ghost use Rattle.pl_types.specs.Breaches.{least};
+ghost use Rattle.pl_syntax.specs.Breaches.{least};
 ghost use Rattle.pl_types.specs.Held.{lent};
-ghost use Rattle.pl_types.specs.Known as known;
-ghost use Rattle.pl_types.specs.Props as spec;
+ghost use Rattle.pl_syntax.specs.Known as known;
+ghost use Rattle.pl_syntax.specs.PropRules as spec;
 ghost use Rattle.pl_types.specs.Tables.{known_of};
 
-use crate::breach::{Breach, Rule, at, earlier, unless};
-use crate::exprs::{Mode, Want, leaves, wanted};
+use crate::breach::{at, earlier, unless};
+use crate::exprs::{Want, leaves, wanted};
 use crate::kinds::read_as;
 use crate::scopes::Scope;
 use crate::tables::Tables;
-use pl_syntax::{Binder, Class, Expr, Instance};
+use pl_syntax::{Binder, Breach, Class, Expr, Instance, Mode, Rule};
 
 /// How an argument is read for a parameter of that class.
 fn argument_mode(mode: Mode, class: Class) -> Mode

@@ -1,30 +1,19 @@
 //! Binders in lists.
 
 ghost use Rattle.std.specs.Prelude.{◌≡◌, IfOk, OnOk};
-ghost use Rattle.pl_types.specs.Breaches.{least};
-ghost use Rattle.pl_types.specs.Known.{nothing};
-ghost use Rattle.pl_types.specs.Props as spec;
+ghost use Rattle.pl_syntax.specs.Breaches.{least};
+ghost use Rattle.pl_syntax.specs.Known.{nothing};
+ghost use Rattle.pl_syntax.specs.PropRules as spec;
 ghost use Rattle.pl_types.specs.Tables.{known_of};
 
-use crate::breach::{Breach, Rule, earlier, unless};
+use crate::breach::{earlier, unless};
 use crate::kinds::read_as;
 use crate::scopes::Scope;
 use crate::seen::Seen;
 use crate::tables::Tables;
 use pl_base::Memory;
-use pl_syntax::{Binder, Class, Sort};
+use pl_syntax::{Binder, Breach, Class, Role, Rule, Sort};
 use std::alloc::Global;
-
-/// What a list of binders is.
-#[derive(Clone, Copy)]
-pub(crate) enum Role {
-    /// The parameters of a function.
-    Parameter,
-    /// The fields of a structure, or a result.
-    Field,
-    /// The parameters of a predicate, or the names of `exists` or `with`.
-    Bound,
-}
 
 /// The class of a binder in a list.
 fn class_in(role: Role, class: Class) -> Class

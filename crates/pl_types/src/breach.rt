@@ -1,27 +1,10 @@
 //! Breaches by kind and place.
 
 ghost use Rattle.std.specs.Prelude.{◌≡◌, Some};
-ghost use Rattle.pl_types.specs.Breaches as spec;
+ghost use Rattle.pl_syntax.specs.Breaches as spec;
 
 use pl_base::Pos;
-
-/// A kind of rule.
-#[derive(Clone, Copy, Debug, PartialEq, Eq)]
-pub(crate) enum Rule {
-    Unknown,
-    Twice,
-    GhostFlow,
-    IllTyped,
-    Opening,
-    Measure,
-}
-
-/// A place at which a rule is broken.
-#[derive(Clone, Copy, Debug)]
-pub(crate) struct Breach {
-    pub rule: Rule,
-    pub pos: Pos,
-}
+use pl_syntax::{Breach, Rule};
 
 /// Rules on names come before all others.
 fn group(rule: Rule) -> u8

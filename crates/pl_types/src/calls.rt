@@ -2,23 +2,23 @@
 
 ghost use Rattle.std.specs.Prelude.{◌≡◌, map};
 ghost use Rattle.pl_syntax.specs.Plain.{plain_expr, plain_init};
-ghost use Rattle.pl_types.specs.Breaches.{least};
+ghost use Rattle.pl_syntax.specs.Breaches.{least};
 ghost use Rattle.pl_types.specs.Held as held;
 ghost use Rattle.pl_types.specs.Held.{lent};
-ghost use Rattle.pl_types.specs.Known.{written};
-ghost use Rattle.pl_types.specs.Stmts as spec;
+ghost use Rattle.pl_syntax.specs.Known.{written};
+ghost use Rattle.pl_syntax.specs.StmtRules as spec;
 ghost use Rattle.pl_types.specs.Tables.{callee, placed};
 
 use crate::arguments::{binder_at, look_written, written_count};
-use crate::breach::{Breach, Rule, at, earlier, unless};
-use crate::exprs::{Mode, Want, leaves, wanted};
+use crate::breach::{at, earlier, unless};
+use crate::exprs::{Want, leaves, wanted};
 use crate::kinds::Kind;
 use crate::permissions::agree;
 use crate::scopes::Scope;
-use crate::spots::Spot;
+use crate::spots;
 use crate::tables::{Callee, sort_in};
 use pl_base::{Name, Pos};
-use pl_syntax::{Binder, Expr, Init};
+use pl_syntax::{Binder, Breach, Expr, Init, Mode, Rule, Spot};
 
 /// The arguments of a call, one for each parameter that isn't logical.
 #[tactic(auto, using(crate::proofs::Leasts::least_append))]
@@ -40,7 +40,11 @@ fn undeclared(scope: &Scope<'_>, pos: Pos, args: &[Expr]) -> Option<Breach>
 fn marked(spot: Spot, pos: Pos, opens: bool) -> Option<Breach>
     ensures { result ≡ least (spec.marked_breaches spot pos opens) }
 {
-    if opens { spot.opening(pos) } else { None }
+    if opens {
+        spots::opening(spot, pos)
+    } else {
+        None
+    }
 }
 
 /// A call of a ghost function.
@@ -48,7 +52,7 @@ fn marked(spot: Spot, pos: Pos, opens: bool) -> Option<Breach>
 fn ghost_call(spot: Spot, pos: Pos, f: Callee<'_>) -> Option<Breach>
     ensures { result ≡ least (spec.ghost_call spot pos (callee f.entry)) }
 {
-    let ends = !spot.is_ghost || spot.may_call(f.place);
+    let ends = !spot.is_ghost || spots::may_call(spot, f.place);
     earlier(
         marked(spot, pos, f.decl.opens),
         unless(ends, Rule::Measure, pos),
@@ -61,7 +65,7 @@ fn look_callee(spot: Spot, pos: Pos, f: Callee<'_>) -> Option<Breach>
     if f.decl.is_ghost {
         ghost_call(spot, pos, f)
     } else {
-        spot.real(pos)
+        spots::real(spot, pos)
     }
 }
 

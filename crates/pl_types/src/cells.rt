@@ -2,31 +2,18 @@
 
 ghost use Rattle.std.specs.Prelude.{◌≡◌};
 ghost use Rattle.pl_syntax.specs.Plain.{plain_cell};
-ghost use Rattle.pl_types.specs.Breaches.{least};
+ghost use Rattle.pl_syntax.specs.Breaches.{least};
 ghost use Rattle.pl_types.specs.Held as held;
-ghost use Rattle.pl_types.specs.Props as spec;
+ghost use Rattle.pl_syntax.specs.PropRules as spec;
 ghost use Rattle.pl_types.specs.Tables.{known_of};
 
-use crate::breach::{Breach, Rule, earlier, unless};
-use crate::exprs::{INTEGER, Mode, Own, Want, own_name, use_found, wanted};
+use crate::breach::{earlier, unless};
+use crate::exprs::{INTEGER, Own, Want, own_name, use_found, wanted};
 use crate::kinds::Kind;
 use crate::scopes::Scope;
 use crate::tables::Tables;
 use pl_base::{Name, Pos};
-use pl_syntax::CellExpr;
-
-/// How a cell is used.
-#[derive(Clone, Copy)]
-pub(crate) enum CellUse {
-    /// It is loaded or stored by real code.
-    Plain,
-    /// It is loaded or stored by ghost code.
-    Ghost,
-    /// It stands in a proposition.
-    Asserted,
-    /// It is shared or gathered.
-    Key,
-}
+use pl_syntax::{Breach, CellExpr, CellUse, Mode, Rule};
 
 /// What a cell holds.
 #[derive(Clone, Copy)]

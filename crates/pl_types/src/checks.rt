@@ -3,62 +3,19 @@
 ghost use Rattle.std.specs.Prelude.{◌≡◌, IfOk, MatchResult, Some};
 ghost use Rattle.pl_syntax.specs.Plain.{plain_program, plain_prop};
 ghost use Rattle.pl_syntax.specs.Tree as tree;
-ghost use Rattle.pl_types.specs.Breaches.{least};
-ghost use Rattle.pl_types.specs.Decls as spec;
+ghost use Rattle.pl_syntax.specs.Breaches.{least};
+ghost use Rattle.pl_syntax.specs.DeclRules as spec;
 ghost use Rattle.pl_types.specs.Tables.{placed};
-ghost use Rattle.pl_types.specs.Typing as typing;
+ghost use Rattle.pl_syntax.specs.Typing.{IsTyped};
+ghost use Rattle.pl_types.specs.Refusals.{Refused};
 
-use crate::breach::{Breach, Rule};
 use crate::decls::look_decls;
 use crate::error::TypeError;
 use crate::known_names::tables_of;
 use crate::tables::Callee;
 use pl_base::Memory;
-use pl_syntax::{Program, Prop};
+use pl_syntax::{Breach, Program, Prop, Rule, Typed};
 use std::alloc::Global;
-use std::marker::Model;
-
-/// A program that keeps all rules on names, sorts, ghost flow, opening and measures, and has a `main`.
-#[derive(Drop)]
-pub struct Typed {
-    program: Program,
-}
-
-impl Model for Typed {
-    ghost use Rattle.pl_syntax.specs.declared.program.Program.{Program};
-    ghost use Rattle.pl_syntax.specs.Plain.{plain_program};
-    ghost use Rattle.pl_types.specs.Typing.{IsTyped};
-    ghost use Rattle.std.specs.Coded.{codes};
-    ghost use Rattle.pl_syntax.specs.contracts.expr.Expr as e;
-    ghost use Rattle.pl_syntax.specs.contracts.prop.Prop as p;
-    ghost use Rattle.pl_syntax.specs.contracts.stmt.Stmts as s;
-
-    ghost Value = { Program };
-
-    ghost coded = { Prim.hlevel (codes, e.the_row.coded, p.the_row.coded, s.the_row.coded) };
-
-    ghost view = { λ t. t.program };
-
-    ghost invariant = { λ t. IsTyped (plain_program t.program) };
-}
-
-impl Typed {
-    /// Keeps the fact that the program is typed. It takes no memory.
-    fn seal(program: Program) -> Typed
-        requires { typing.IsTyped (plain_program program) }
-        ensures { result ≡ program }
-    {
-        Typed { program }
-    }
-
-    /// The program, which keeps all rules.
-    pub fn program(&self) -> &Program
-        ensures same { result.now ≡ self.now }
-        ensures typed { typing.IsTyped (plain_program self.now) }
-    {
-        &self.program
-    }
-}
 
 fn is_emp(prop: &Prop) -> bool
     ensures { result ≡ spec.is_emp (plain_prop prop.now) }
@@ -101,7 +58,7 @@ fn look_program(alloc: Global, program: &Program) -> Result<Found, Memory>
 
 /// The refusal of a breach.
 fn refusal(breach: Breach) -> TypeError
-    ensures { (p : tree.Program) → least (spec.breaches p) ≡ Some breach → typing.Refused p result }
+    ensures { (p : tree.Program) → least (spec.breaches p) ≡ Some breach → Refused p result }
 {
     let pos = breach.pos;
     match breach.rule {
@@ -117,7 +74,7 @@ fn refusal(breach: Breach) -> TypeError
 /// The program as a typed one, or why it isn't one: its first breach, or where it has none that it has no `main`.
 #[tactic(auto, using(crate::proofs::Leasts::least_none))]
 pub fn type_check(alloc: Global, program: Program) -> Result<Typed, TypeError>
-    ensures { MatchResult result (λ t. (t ≡ program) × typing.IsTyped (plain_program t)) (λ e. typing.Refused (plain_program program) e) }
+    ensures { MatchResult result (λ t. (t ≡ program) × IsTyped (plain_program t)) (λ e. Refused (plain_program program) e) }
 {
     let found = look_program(alloc, &program)?;
     match found.breach {

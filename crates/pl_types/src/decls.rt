@@ -3,28 +3,29 @@
 ghost use Rattle.std.specs.Prelude.{◌≡◌, IfOk, OnOk, map, false};
 ghost use Rattle.std.specs.Option.{option_map};
 ghost use Rattle.pl_syntax.specs.Plain.{plain_block, plain_decl, plain_expr, plain_fun, plain_pred, plain_stmts};
-ghost use Rattle.pl_types.specs.Breaches.{least};
-ghost use Rattle.pl_types.specs.Decls as spec;
+ghost use Rattle.pl_syntax.specs.Breaches.{least};
+ghost use Rattle.pl_syntax.specs.DeclRules as spec;
 ghost use Rattle.pl_types.specs.Held as held;
-ghost use Rattle.pl_types.specs.Known.{nothing};
-ghost use Rattle.pl_types.specs.Props as props;
-ghost use Rattle.pl_types.specs.declared.binders.Role.TheVariants as role;
-ghost use Rattle.pl_types.specs.Stmts.{result_of};
+ghost use Rattle.pl_syntax.specs.Known.{nothing};
+ghost use Rattle.pl_syntax.specs.PropRules as props;
+ghost use Rattle.pl_syntax.specs.declared.rules.Role.TheVariants as role;
+ghost use Rattle.pl_syntax.specs.StmtRules.{result_of};
 ghost use Rattle.pl_types.specs.Tables.{known_of};
 
-use crate::binders::{Role, bind_all, look_binder, look_binders};
-use crate::breach::{Breach, Rule, earlier, unless};
+use crate::binders::{bind_all, look_binder, look_binders};
+use crate::breach::{earlier, unless};
 use crate::exprs::INTEGER;
 use crate::kinds::{Kind, read_as};
 use crate::props::{look_body, look_prop};
 use crate::scopes::Scope;
 use crate::seen::Seen;
 use crate::simple::read;
-use crate::spots::{Inside, Spot};
 use crate::stmts::look_stmts;
 use crate::tables::Tables;
 use pl_base::{Memory, Name, Pos};
-use pl_syntax::{Binder, Class, Decl, Expr, FunDecl, PredDecl, Stmt, Stmts};
+use pl_syntax::{
+    Binder, Breach, Class, Decl, Expr, FunDecl, Inside, PredDecl, Role, Rule, Spot, Stmt, Stmts,
+};
 use std::alloc::Global;
 
 /// The result of a function.

@@ -2,29 +2,16 @@
 
 ghost use Rattle.std.specs.Prelude.{◌≡◌, ◌++◌, ◌&&◌, List};
 ghost use Rattle.pl_syntax.specs.Plain.{plain_expr};
-ghost use Rattle.pl_types.specs.declared.breach.Breach.{Breach};
-ghost use Rattle.pl_types.specs.Breaches.{least};
-ghost use Rattle.pl_types.specs.Exprs as spec;
+ghost use Rattle.pl_syntax.specs.declared.rules.Breach.{Breach};
+ghost use Rattle.pl_syntax.specs.Breaches.{least};
+ghost use Rattle.pl_syntax.specs.ExprRules as spec;
 ghost use Rattle.pl_types.specs.Held as held;
 
-use crate::breach::{Breach, Rule, at, earlier, first, unless};
+use crate::breach::{at, earlier, first, unless};
 use crate::kinds::{Kind, is_ref, same_sort};
 use crate::scopes::{Binding, Scope};
 use pl_base::Pos;
-use pl_syntax::{BinOp, Class, Expr};
-
-/// Where an expression stands.
-#[derive(Clone, Copy)]
-pub(crate) enum Mode {
-    /// In code that runs.
-    Real,
-    /// In ghost code, where it is evaluated.
-    Ghost,
-    /// In ghost code or a contract, where it isn't evaluated.
-    Read,
-    /// In a proposition.
-    Prop,
-}
+use pl_syntax::{BinOp, Breach, Class, Expr, Mode, Rule};
 
 /// The sort that an expression has by itself.
 #[derive(Clone, Copy)]

@@ -2,7 +2,7 @@
 
 ghost use Rattle.std.specs.Prelude.{◌≡◌};
 ghost use Rattle.pl_types.specs.Held as held;
-ghost use Rattle.pl_types.specs.Scopes as spec;
+ghost use Rattle.pl_syntax.specs.Scopes as spec;
 
 use pl_base::Name;
 use pl_syntax::Sort;

@@ -2,7 +2,7 @@
 
 ghost use Rattle.std.specs.Prelude.{◌≡◌, IfOk, OnOk, map};
 ghost use Rattle.pl_syntax.specs.Plain.{plain_decl};
-ghost use Rattle.pl_types.specs.Known as spec;
+ghost use Rattle.pl_syntax.specs.Known as spec;
 ghost use Rattle.pl_types.specs.Tables.{lists_in, funs_in, taken_in, known_of};
 
 use crate::seen::Seen;

@@ -13,6 +13,7 @@ mod error;
 mod exprs;
 mod kinds;
 mod known_names;
+mod numbers;
 mod permissions;
 mod plains;
 mod props;
@@ -24,7 +25,7 @@ mod spots;
 mod stmts;
 mod tables;
 
-pub use checks::{Typed, type_check};
+pub use checks::type_check;
 pub use error::TypeError;
 
 #[cfg(test)]

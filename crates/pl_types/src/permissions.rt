@@ -2,17 +2,16 @@
 
 ghost use Rattle.std.specs.Prelude.{◌≡◌};
 ghost use Rattle.pl_syntax.specs.Plain.{plain_cell, plain_prop};
-ghost use Rattle.pl_types.specs.Breaches.{least};
+ghost use Rattle.pl_syntax.specs.Breaches.{least};
 ghost use Rattle.pl_types.specs.Held.{lent};
-ghost use Rattle.pl_types.specs.Props as spec;
+ghost use Rattle.pl_syntax.specs.PropRules as spec;
 
-use crate::breach::Breach;
 use crate::cells::is_ghost_cell;
-use crate::exprs::{Mode, Want, named};
+use crate::exprs::{Want, named};
 use crate::kinds::Kind;
 use crate::scopes::Scope;
 use pl_base::{Name, Perm};
-use pl_syntax::{CellExpr, PermExpr, Prop};
+use pl_syntax::{Breach, CellExpr, Mode, PermExpr, Prop};
 
 /// The variable of a permission.
 pub(crate) fn look_perm(scope: &Scope<'_>, perm: &PermExpr) -> Option<Breach>

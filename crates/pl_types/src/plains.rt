@@ -2,17 +2,17 @@
 
 ghost use Rattle.std.specs.Prelude.{◌≡◌, OnOk};
 ghost use Rattle.pl_syntax.specs.Plain.{plain_cell, plain_stmt};
-ghost use Rattle.pl_types.specs.Breaches.{least};
+ghost use Rattle.pl_syntax.specs.Breaches.{least};
 ghost use Rattle.pl_types.specs.Held as held;
 ghost use Rattle.pl_types.specs.Held.{lent};
-ghost use Rattle.pl_types.specs.Stmts as spec;
+ghost use Rattle.pl_syntax.specs.StmtRules as spec;
 ghost use Rattle.pl_types.specs.Tables.{known_of, placed};
 
 use crate::arguments::look_instance;
-use crate::breach::{Breach, earlier};
+use crate::breach::earlier;
 use crate::calls::look_call;
-use crate::cells::{CellUse, content_of, is_ghost_cell};
-use crate::exprs::{INTEGER, Mode, TRUTH, Want, sort_of};
+use crate::cells::{content_of, is_ghost_cell};
+use crate::exprs::{INTEGER, TRUTH, Want, sort_of};
 use crate::kinds::{Kind, read_as};
 use crate::reals::{
     look_atomic, look_cas, look_cut, look_element, look_lock, look_made, look_par, look_result,
@@ -22,10 +22,10 @@ use crate::scopes::Scope;
 use crate::simple::{
     evaluated, kind_of_content, kind_of_own, look_key, look_load, look_store, pointer_to, read,
 };
-use crate::spots::Spot;
+use crate::spots;
 use crate::tables::{Callee, Tables};
 use pl_base::{Memory, Name};
-use pl_syntax::{CellExpr, Class, Stmt};
+use pl_syntax::{Breach, CellExpr, CellUse, Class, Mode, Spot, Stmt};
 
 const LOCK: Want<'static> = Want::Sorted(Kind::Lock);
 
@@ -43,7 +43,7 @@ fn look_ghosts<'a>(
         Stmt::GLet(_, _, e) => evaluated(scope, Want::Value, e),
         Stmt::GAlloc(_, _, e) => evaluated(scope, INTEGER, e),
         Stmt::NewInv(pos, _, i) => earlier(
-            spot.outside(*pos),
+            spots::outside(spot, *pos),
             look_instance(Mode::Ghost, tables, scope, i),
         ),
         Stmt::Fold(_, i) => look_instance(Mode::Read, tables, scope, i),
@@ -74,7 +74,7 @@ fn look_real<'a>(
         Stmt::Acquire(pos, l) => look_use(spot, scope, LOCK, *pos, l),
         Stmt::Release(pos, l) => look_use(spot, scope, LOCK, *pos, l),
         Stmt::FreeLock(pos, l) => look_use(spot, scope, LOCK, *pos, l),
-        Stmt::Read(pos, _) => spot.real(*pos),
+        Stmt::Read(pos, _) => spots::real(spot, *pos),
         Stmt::Print(pos, e) => look_value(spot, scope, INTEGER, *pos, e),
         Stmt::Call(pos, x, f, args) => look_call(
             spot,

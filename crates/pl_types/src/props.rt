@@ -3,22 +3,22 @@
 ghost use Rattle.std.specs.Prelude.{◌≡◌, IfOk};
 ghost use Rattle.std.specs.Option.{option_map};
 ghost use Rattle.pl_syntax.specs.Plain.{plain_body, plain_cell, plain_expr, plain_prop};
-ghost use Rattle.pl_types.specs.Breaches.{least};
+ghost use Rattle.pl_syntax.specs.Breaches.{least};
 ghost use Rattle.pl_types.specs.Held.{lent};
-ghost use Rattle.pl_types.specs.Props as spec;
+ghost use Rattle.pl_syntax.specs.PropRules as spec;
 ghost use Rattle.pl_types.specs.Tables.{known_of};
 
 use crate::arguments::look_instance;
-use crate::binders::{Role, bind_all, look_binders};
-use crate::breach::{Breach, earlier};
-use crate::cells::{CellUse, content_of, look_cell, want_of};
-use crate::exprs::{INTEGER, Mode, TRUTH, Want, wanted};
+use crate::binders::{bind_all, look_binders};
+use crate::breach::earlier;
+use crate::cells::{content_of, look_cell, want_of};
+use crate::exprs::{INTEGER, TRUTH, Want, wanted};
 use crate::kinds::Kind;
 use crate::permissions::look_perm;
 use crate::scopes::Scope;
 use crate::tables::Tables;
 use pl_base::{Memory, Pos};
-use pl_syntax::{Binder, Body, CellExpr, Expr, PermExpr, Prop};
+use pl_syntax::{Binder, Body, Breach, CellExpr, CellUse, Expr, Mode, PermExpr, Prop, Role};
 use std::alloc::Global;
 
 const LOCK: Want<'static> = Want::Sorted(Kind::Lock);

@@ -3,25 +3,25 @@
 ghost use Rattle.std.specs.Prelude.{◌≡◌, ◌++◌, map};
 ghost use Rattle.pl_syntax.specs.Plain.{plain_expr, plain_init, plain_instance};
 ghost use Rattle.pl_syntax.specs.declared.expr.Sort.TheVariants as sort;
-ghost use Rattle.pl_types.specs.declared.exprs.Mode.TheVariants as mode;
-ghost use Rattle.pl_types.specs.Breaches.{least};
-ghost use Rattle.pl_types.specs.Exprs as x;
+ghost use Rattle.pl_syntax.specs.declared.rules.Mode.TheVariants as mode;
+ghost use Rattle.pl_syntax.specs.Breaches.{least};
+ghost use Rattle.pl_syntax.specs.ExprRules as x;
 ghost use Rattle.pl_types.specs.Held as held;
-ghost use Rattle.pl_types.specs.Props.{instance_breaches};
-ghost use Rattle.pl_types.specs.Stmts as spec;
+ghost use Rattle.pl_syntax.specs.PropRules.{instance_breaches};
+ghost use Rattle.pl_syntax.specs.StmtRules as spec;
 ghost use Rattle.pl_types.specs.Tables.{known_of, placed};
 
 use crate::arguments::look_instance;
-use crate::breach::{Breach, earlier};
+use crate::breach::earlier;
 use crate::calls::{look_forked, look_new};
-use crate::exprs::{INTEGER, Mode, Want};
+use crate::exprs::{INTEGER, Want};
 use crate::kinds::Kind;
 use crate::scopes::Scope;
 use crate::simple::{look_range, look_return, read, read_name, real, real_name};
-use crate::spots::Spot;
+use crate::spots;
 use crate::tables::{Callee, Tables};
 use pl_base::{Name, Pos};
-use pl_syntax::{Binder, Expr, Init, Instance};
+use pl_syntax::{Binder, Breach, Expr, Init, Instance, Mode, Spot};
 
 const ATOMIC: Want<'static> = Want::Sorted(Kind::Atomic);
 
@@ -36,7 +36,7 @@ pub(crate) fn look_value(
 ) -> Option<Breach>
     ensures { result ≡ least (spec.real_breaches spot pos ++ spec.real scope.now (held.want want.entry) (plain_expr e.now)) }
 {
-    earlier(spot.real(pos), real(scope, want, e))
+    earlier(spots::real(spot, pos), real(scope, want, e))
 }
 
 /// Two integers.
@@ -67,7 +67,7 @@ pub(crate) fn look_use(
 ) -> Option<Breach>
     ensures { result ≡ least (spec.real_breaches spot pos ++ spec.real_name scope.now (held.want want.entry) pos name.now) }
 {
-    earlier(spot.real(pos), real_name(scope, want, pos, name))
+    earlier(spots::real(spot, pos), real_name(scope, want, pos, name))
 }
 
 /// The first values of a structure.
@@ -81,7 +81,7 @@ pub(crate) fn look_made(
 ) -> Option<Breach>
     ensures { result ≡ least (spec.real_breaches spot pos ++ spec.new_breaches scope.now pos (held.lent fields.entry) (map plain_init inits.now)) }
 {
-    earlier(spot.real(pos), look_new(scope, pos, fields, inits))
+    earlier(spots::real(spot, pos), look_new(scope, pos, fields, inits))
 }
 
 /// The invariant of a lock.
@@ -95,7 +95,10 @@ pub(crate) fn look_lock<'a>(
 ) -> Option<Breach>
     ensures { result ≡ least (spec.real_breaches spot pos ++ instance_breaches mode.Ghost (known_of tables.now) scope.now (plain_instance i.now)) }
 {
-    earlier(spot.real(pos), look_instance(Mode::Ghost, tables, scope, i))
+    earlier(
+        spots::real(spot, pos),
+        look_instance(Mode::Ghost, tables, scope, i),
+    )
 }
 
 /// Two calls.
@@ -112,7 +115,7 @@ pub(crate) fn look_par(
     ensures { result ≡ least (spec.real_breaches spot pos ++ spec.forked_breaches scope.now pos (placed f.entry) (map plain_expr args.now)
         ++ spec.forked_breaches scope.now pos (placed g.entry) (map plain_expr others.now)) }
 {
-    let first = earlier(spot.real(pos), look_forked(scope, pos, f, args));
+    let first = earlier(spots::real(spot, pos), look_forked(scope, pos, f, args));
     earlier(first, look_forked(scope, pos, g, others))
 }
 
@@ -127,7 +130,7 @@ pub(crate) fn look_result(
 ) -> Option<Breach>
     ensures { result ≡ least (spec.real_breaches spot pos ++ spec.return_breaches scope.now pos (held.sorts last.entry) (plain_expr e.now)) }
 {
-    earlier(spot.real(pos), look_return(scope, pos, last, e))
+    earlier(spots::real(spot, pos), look_return(scope, pos, last, e))
 }
 
 /// An atomic action on that cell.
@@ -135,7 +138,10 @@ pub(crate) fn look_result(
 pub(crate) fn look_atomic(spot: Spot, scope: &Scope<'_>, pos: Pos, name: &Name) -> Option<Breach>
     ensures { result ≡ least (spec.action_breaches spot pos ++ spec.real_name scope.now (x.sorted sort.Atomic) pos name.now) }
 {
-    earlier(spot.action(pos), real_name(scope, ATOMIC, pos, name))
+    earlier(
+        spots::action(spot, pos),
+        real_name(scope, ATOMIC, pos, name),
+    )
 }
 
 /// One with an integer.

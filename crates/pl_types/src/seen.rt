@@ -12,7 +12,7 @@ pub(crate) struct Seen<'a> {
 
 impl<'a> Seen<'a> {
     ghost use Rattle.std.specs.Prelude.{◌≡◌, OnOk};
-    ghost use Rattle.pl_types.specs.Known.{nothing, put};
+    ghost use Rattle.pl_syntax.specs.Known.{nothing, put};
     ghost use Rattle.pl_types.specs.Tables.{taken_in};
 
     pub fn new(alloc: Global) -> Seen<'a>

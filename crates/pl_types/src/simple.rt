@@ -2,20 +2,20 @@
 
 ghost use Rattle.std.specs.Prelude.{◌≡◌};
 ghost use Rattle.pl_syntax.specs.Plain.{plain_cell, plain_expr, plain_key};
-ghost use Rattle.pl_types.specs.Breaches.{least};
+ghost use Rattle.pl_syntax.specs.Breaches.{least};
 ghost use Rattle.pl_types.specs.Held as held;
-ghost use Rattle.pl_types.specs.Stmts as spec;
+ghost use Rattle.pl_syntax.specs.StmtRules as spec;
 ghost use Rattle.pl_types.specs.Tables.{known_of};
 
-use crate::breach::{Breach, Rule, at, earlier};
-use crate::cells::{CellUse, Content, content_of, look_cell, want_of};
-use crate::exprs::{INTEGER, Mode, Own, Want, leaves, named, wanted};
+use crate::breach::{at, earlier};
+use crate::cells::{Content, content_of, look_cell, want_of};
+use crate::exprs::{INTEGER, Own, Want, leaves, named, wanted};
 use crate::kinds::Kind;
 use crate::scopes::Scope;
-use crate::spots::Spot;
+use crate::spots;
 use crate::tables::Tables;
 use pl_base::{Name, Pos};
-use pl_syntax::{CellExpr, Expr, Key};
+use pl_syntax::{Breach, CellExpr, CellUse, Expr, Key, Mode, Rule, Spot};
 
 /// An expression of real code.
 pub(crate) fn real(scope: &Scope<'_>, want: Want<'_>, e: &Expr) -> Option<Breach>
@@ -91,7 +91,7 @@ pub(crate) fn look_load<'a>(
     if is_ghost {
         ghost_cell(tables, scope, pos, cell)
     } else {
-        earlier(spot.real(pos), real_cell(tables, scope, pos, cell))
+        earlier(spots::real(spot, pos), real_cell(tables, scope, pos, cell))
     }
 }
 
@@ -112,7 +112,7 @@ pub(crate) fn look_store<'a>(
         let found = ghost_cell(tables, scope, pos, cell);
         earlier(found, evaluated(scope, INTEGER, e))
     } else {
-        let found = earlier(spot.real(pos), real_cell(tables, scope, pos, cell));
+        let found = earlier(spots::real(spot, pos), real_cell(tables, scope, pos, cell));
         let want = want_of(content_of(tables, CellUse::Plain, scope, cell));
         earlier(found, real(scope, want, e))
     }

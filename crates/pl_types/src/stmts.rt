@@ -4,17 +4,17 @@ ghost use Rattle.std.specs.Prelude.{◌≡◌, ◌==◌, ◌&&◌, ◌||◌, if�
 ghost use Rattle.std.specs.Option.{option_map};
 ghost use Rattle.pl_syntax.specs.Plain.{plain_block, plain_expr, plain_prop, plain_stmt, plain_stmts};
 ghost use Rattle.pl_syntax.specs.declared.expr.Sort.TheVariants as sort;
-ghost use Rattle.pl_types.specs.Breaches.{earlier, least};
-ghost use Rattle.pl_types.specs.Exprs as x;
+ghost use Rattle.pl_syntax.specs.Breaches.{earlier, least};
+ghost use Rattle.pl_syntax.specs.ExprRules as x;
 ghost use Rattle.pl_types.specs.Held as held;
-ghost use Rattle.pl_types.specs.Props as props;
-ghost use Rattle.pl_types.specs.declared.binders.Role.TheVariants as role;
-ghost use Rattle.pl_types.specs.Stmts as spec;
+ghost use Rattle.pl_syntax.specs.PropRules as props;
+ghost use Rattle.pl_syntax.specs.declared.rules.Role.TheVariants as role;
+ghost use Rattle.pl_syntax.specs.StmtRules as spec;
 ghost use Rattle.pl_types.specs.Tables.{known_of};
 
 use crate::actions::{block_has_action, second_actions_in};
-use crate::binders::{Role, bind_all, look_binders};
-use crate::breach::{Breach, Rule, earlier, unless};
+use crate::binders::{bind_all, look_binders};
+use crate::breach::{earlier, unless};
 use crate::exprs::{TRUTH, Want, wanted};
 use crate::kinds::Kind;
 use crate::permissions::same_atom;
@@ -22,10 +22,10 @@ use crate::plains::{bind_plain, is_plain_ghost, look_plain};
 use crate::props::{look_after, look_prop};
 use crate::scopes::Scope;
 use crate::simple::{condition, read_name, real};
-use crate::spots::{Inside, Spot};
+use crate::spots;
 use crate::tables::Tables;
 use pl_base::{Memory, Name, Pos};
-use pl_syntax::{Binder, Expr, Prop, Stmt, Stmts};
+use pl_syntax::{Binder, Breach, Expr, Inside, Prop, Role, Rule, Spot, Stmt, Stmts};
 use std::alloc::Global;
 
 /// What statements are seen to be: the first breach in them, and whether all of them are ghost.
@@ -48,7 +48,7 @@ fn look_opened(spot: Spot, scope: &Scope<'_>, pos: Pos, name: &Name, body: &Stmt
     ensures { result ≡ least (spec.block_breaches spot scope.now pos name.now (plain_block body.now)) }
 {
     let number = read_name(scope, Want::Sorted(Kind::Iname), pos, name);
-    let opening = earlier(number, spot.opening(pos));
+    let opening = earlier(number, spots::opening(spot, pos));
     let action = earlier(opening, unless(acts(spot, body), Rule::Opening, pos));
     earlier(action, second_actions_in(body))
 }
@@ -178,31 +178,44 @@ fn look_stmt<'a>(
 {
     match s {
         Stmt::If(_, e, first, second, after) => {
-            let one = look_arm(first, alloc, tables, spot.under(), scope)?;
+            let one = look_arm(first, alloc, tables, spots::under(spot), scope)?;
             match second {
                 None => {
                     let two = not_executed(None);
                     look_choice(e, one, two, after.as_ref(), alloc, tables, spot, scope)
                 }
                 Some(block) => {
-                    let two = look_arm(block, alloc, tables, spot.under(), scope)?;
+                    let two = look_arm(block, alloc, tables, spots::under(spot), scope)?;
                     look_choice(e, one, two, after.as_ref(), alloc, tables, spot, scope)
                 }
             }
         }
         Stmt::While(pos, loads, e, kept, body) => {
             let mark = scope.mark();
-            let head = look_stmts(loads.as_slice(), alloc, tables, spot.under(), None, scope)?;
+            let head = look_stmts(
+                loads.as_slice(),
+                alloc,
+                tables,
+                spots::under(spot),
+                None,
+                scope,
+            )?;
             let test = real(scope, TRUTH, e);
-            let inner = look_block(body, alloc, tables, spot.under(), scope)?;
+            let inner = look_block(body, alloc, tables, spots::under(spot), scope)?;
             scope.leave(mark);
             let again = look_prop(kept, alloc, tables, scope)?;
-            let before = earlier(earlier(spot.real(*pos), head.found), test);
+            let before = earlier(earlier(spots::real(spot, *pos), head.found), test);
             Ok(executed(earlier(earlier(before, again), inner.found)))
         }
         Stmt::With(pos, name, body, after) => {
             let opened = look_opened(spot, scope, *pos, name, body);
-            let inner = look_block(body, alloc, tables, spot.move_to(Inside::Direct), scope)?;
+            let inner = look_block(
+                body,
+                alloc,
+                tables,
+                spots::move_to(spot, Inside::Direct),
+                scope,
+            )?;
             let behind = look_after(after.as_ref(), alloc, tables, scope)?;
             Ok(executed(earlier(earlier(opened, inner.found), behind)))
         }

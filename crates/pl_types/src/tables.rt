@@ -2,8 +2,8 @@
 
 ghost use Rattle.std.specs.Prelude.{◌≡◌, codes};
 ghost use Rattle.pl_types.specs.Held.{lent, sorts};
-ghost use Rattle.pl_types.specs.Known.{sort_in};
-ghost use Rattle.pl_types.specs.Props.{field_of};
+ghost use Rattle.pl_syntax.specs.Known.{sort_in};
+ghost use Rattle.pl_syntax.specs.PropRules.{field_of};
 ghost use Rattle.pl_types.specs.Tables.{known_of, placed};
 
 use crate::kinds::{Kind, read_as};

@@ -127,6 +127,27 @@ fn a_name_is_bound_behind_its_value(rt: HostRuntime) -> Result<(), Fail> {
     Ok(())
 }
 
+/// `fn main() { let x = 1; if (true) { let x = alloc(2); free(x); } print(x); }`: behind the block `x` is the number again
+#[test]
+fn a_hidden_name_comes_back(rt: HostRuntime) -> Result<(), Fail> {
+    let alloc = rt.alloc();
+    let mut arm = Vec::new(alloc);
+    arm.push(Stmt::Alloc(place(36), Name::of(alloc, "x")?, Expr::Int(place(50), 2)))?;
+    arm.push(Stmt::Free(place(54), Name::of(alloc, "x")?))?;
+    let mut list = Vec::new(alloc);
+    list.push(Stmt::Let(place(13), Name::of(alloc, "x")?, Expr::Int(place(21), 1)))?;
+    list.push(Stmt::If(
+        place(24),
+        Expr::Truth(place(28), true),
+        block(arm),
+        None,
+        None,
+    ))?;
+    list.push(Stmt::Print(place(65), Expr::Var(place(71), Name::of(alloc, "x")?)))?;
+    assert!(rt; check(alloc, main_of(alloc, list)?)?.is_none());
+    Ok(())
+}
+
 /// `fn main() { let ghost g = 1; if (g == 1) { print(1); } }`
 #[test]
 fn a_real_branch_has_a_real_condition(rt: HostRuntime) -> Result<(), Fail> {

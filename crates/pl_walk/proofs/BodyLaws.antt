@@ -7,7 +7,7 @@ use Rattle.pl_syntax.specs.declared.program.Decl.TheVariants as variant
 use Rattle.pl_syntax.specs.declared.program.Program as program
 use Rattle.pl_syntax.specs.Tree.{Stmt, FunDecl, Fun, list_of, close_of}
 use Rattle.pl_syntax.specs.Plain.{plain_stmt, plain_fun, plain_decl, plain_program}
-use Rattle.pl_syntax.specs.Sorts.{AreSorted, IsTyped}
+use Rattle.pl_syntax.specs.Straight.{AreSorted, IsStraight}
 use Rattle.pl_syntax.proofs.TreeLaws.{block_list}
 use Rattle.pl_terms.specs.Table.{Known, start}
 use Rattle.pl_walk.specs.declared.walk.WalkError.{WalkError}
@@ -44,7 +44,7 @@ only_fun (x ∷ []) (suc k) d f main e at is = cc
 only_fun (x ∷ y ∷ ys) k d f main e at is = cc
 
 -- so its statements keep the sort rules
-pub fun_sorted : (p : program.Program) (k : ℕ) (d : decl.Decl) (f : fun.FunDecl) → IsTyped (plain_program p) → slice_get p.decls k ≡ Some d → d ≡ variant.Fun f → AreSorted [] (map plain_stmt f.body.list)
-fun_sorted p k d f typed at is =
-    let one : plain_fun f ≡ typed.0 = only_fun p.decls k d f typed.0 typed.1 at is in
-    subst (AreSorted []) (ap (λ (g : FunDecl). list_of g.body) (sym one) ∙ block_list f.body) typed.2.statements
+pub fun_sorted : (p : program.Program) (k : ℕ) (d : decl.Decl) (f : fun.FunDecl) → IsStraight (plain_program p) → slice_get p.decls k ≡ Some d → d ≡ variant.Fun f → AreSorted [] (map plain_stmt f.body.list)
+fun_sorted p k d f straight at is =
+    let one : plain_fun f ≡ straight.0 = only_fun p.decls k d f straight.0 straight.1 at is in
+    subst (AreSorted []) (ap (λ (g : FunDecl). list_of g.body) (sym one) ∙ block_list f.body) straight.2.statements

@@ -1,11 +1,11 @@
 -- A program whose duties are all done, and two that leave one undone: the premises of the laws can be met.
-use Rattle.std.proofs.Common.{◌≡◌, ℕ, pos, false, List, [], ◌∷◌, ◌++◌, refl, sym, ap, ap₂, inl, inr, arith}
+use Rattle.std.proofs.Common.{◌≡◌, ℕ, pos, false, None, List, [], ◌∷◌, ◌++◌, refl, sym, ap, ap₂, inl, inr, arith}
 use lib.Chars.{codes}
 use Rattle.std.specs.Fmt.{digits, decimal}
 use Rattle.pl_base.specs.declared.pos.Pos.{Pos}
 use Rattle.pl_base.specs.Permission.{whole}
-use Rattle.pl_syntax.specs.Grammar as grammar
-use Rattle.pl_syntax.specs.Tree.{Name, Int, Var, Whole, Stmt, Load, Alloc, Free, Print, FunDecl}
+use Rattle.pl_syntax.specs.Plain.{chain}
+use Rattle.pl_syntax.specs.Tree.{Name, Int, Var, Whole, Emp, Stmt, Load, Alloc, Free, Print, braces, FunDecl}
 use Rattle.pl_terms.specs.declared.term.Term.TheVariants.{Literal, Variable}
 use Rattle.pl_terms.specs.Terms.{Block}
 use Rattle.pl_terms.specs.Table.{Known, start, allocated, put}
@@ -36,7 +36,18 @@ frees line = Free (at line) r
 
 -- a function `main` of these statements
 abbrev pub main_of : List Stmt → FunDecl
-main_of list = grammar.main_of (at 1) list (record { line = 5; col = 1; byte = 0 })
+main_of list = record {
+  pos = at 1;
+  is_ghost = false;
+  name = codes "main";
+  params = [];
+  opens = false;
+  before = Emp (at 1);
+  result = None;
+  after = Emp (at 1);
+  measure = None;
+  body = braces (chain list) (record { line = 5; col = 1; byte = 0 });
+}
 
 -- it frees what it allocates
 abbrev pub main : FunDecl

@@ -14,7 +14,7 @@ use Rattle.pl_syntax.specs.declared.expr.Sort.{Sort}
 use Rattle.pl_syntax.specs.declared.expr.Sort.TheVariants.{I64, RefI64}
 use Rattle.pl_syntax.specs.Places.{pos_of}
 use Rattle.pl_syntax.specs.Tree.{Name, Expr, Int, Var, CellExpr, Whole, Stmt, Load, Alloc, Free, Print}
-use Rattle.pl_syntax.specs.Sorts.{Scope, sort_of, IsInteger, IsCell, AreSorted}
+use Rattle.pl_syntax.specs.Straight.{Scope, sort_of, IsInteger, IsCell, AreSorted}
 use Rattle.pl_terms.specs.declared.term.Term.{Term}
 use Rattle.pl_terms.specs.declared.term.Term.TheVariants.{Literal}
 use Rattle.pl_walk.specs.declared.walk.Duty.{Duty}

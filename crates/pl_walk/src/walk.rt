@@ -2,7 +2,7 @@
 ghost use Rattle.std.specs.Prelude.{◌≡◌, ◌<◌, Bool, length, map, slice_get, Some, []};
 ghost use Rattle.pl_syntax.specs.Plain.{plain_stmt, plain_expr, plain_cell, plain_fun, plain_program};
 ghost use Rattle.pl_syntax.specs.Tree as t;
-ghost use Rattle.pl_syntax.specs.Sorts.{AreSorted};
+ghost use Rattle.pl_syntax.specs.Straight.{AreSorted};
 ghost use Rattle.pl_walk.specs.Ready.{Ready, IsWhole, IsPointer, IsPointerCell, IsLiteral};
 ghost use Rattle.pl_walk.specs.Says.{StatementSays, ListSays, EndSays, FunctionSays};
 ghost use Rattle.pl_walk.specs.Shown.{known_of};
@@ -11,7 +11,7 @@ ghost use Rattle.pl_terms.specs.Table.{term_of};
 use crate::known::Known;
 use crate::text::{atoms_text, missing};
 use pl_base::{Items, Memory, Name, Pos};
-use pl_syntax::{CellExpr, Decl, Expr, FunDecl, Stmt, Typed};
+use pl_syntax::{CellExpr, Decl, Expr, FunDecl, Stmt, Straight};
 use pl_terms::Term;
 use std::alloc::Global;
 
@@ -183,11 +183,11 @@ fn walk_body(alloc: Global, fun: &FunDecl) -> Result<(), WalkError>
 
 /// Walks over the function of that number, in the file's order from 0: Ok where no duty is left undone,
 /// else the first that is.
-pub fn walk_function(alloc: Global, typed: &Typed, k: u32) -> Result<(), WalkError>
-    requires { k < length (plain_program typed.now).decls }
-    ensures { (f : t.FunDecl) → slice_get (plain_program typed.now).decls k ≡ Some (t.Fun f) → FunctionSays result f }
+pub fn walk_function(alloc: Global, straight: &Straight, k: u32) -> Result<(), WalkError>
+    requires { k < length (plain_program straight.now).decls }
+    ensures { (f : t.FunDecl) → slice_get (plain_program straight.now).decls k ≡ Some (t.Fun f) → FunctionSays result f }
 {
-    match &typed.program().decls.as_slice()[k as usize] {
+    match &straight.program().decls.as_slice()[k as usize] {
         Decl::Fun(fun) => walk_body(alloc, fun),
         Decl::Struct(_) | Decl::Pred(_) => unreachable!(),
     }

@@ -11,5 +11,5 @@ use Rattle.pl_erase.proofs.rows.erase.Goals as goal
 pub returns-clause-fragment : goal.returns-clause-fragment
 returns-clause-fragment c =
     let made : CProgram = record { structs = c.of.result; funs = c.of-2.result } in
-    let same : out.plain_program made ≡ emitted (source.plain_program c.args.typed.now) = grind (arith, common_steps) in
-    subst IsFragment (sym same) (fragment (source.plain_program c.args.typed.now) c.program.ensures.typed)
+    let same : out.plain_program made ≡ emitted (source.plain_program c.args.straight.now) = grind (arith, common_steps) in
+    subst IsFragment (sym same) (fragment (source.plain_program c.args.straight.now) c.program.ensures.straight)

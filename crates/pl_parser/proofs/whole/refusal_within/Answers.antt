@@ -7,11 +7,13 @@ overflow_sub-k c = omega (arith, stop_inside c.args.tokens.now c.args.stop c.req
 
 pub returns-then-is_minus : goal.returns-then-is_minus
 returns-then-is_minus c =
-    refusal_minus c.args.tokens.now c.args.stop c.requires.few c.requires.stops (length c.args.tokens.now - c.args.stop.left) refl (c.in_ok-is_minus.ensures c.if-is_minus.true) _ c.place_at.ensures
+    let minus = rw c.if-is_minus.true at c.in_ok-is_minus.ensures in
+    refusal_minus c.args.tokens.now c.args.stop c.requires.few c.requires.stops (length c.args.tokens.now - c.args.stop.left) refl minus _ c.place_at.ensures
 
 pub returns-then-stop : goal.returns-then-stop
 returns-then-stop c =
-    refusal_deep c.args.tokens.now c.args.stop c.requires.few c.requires.stops (length c.args.tokens.now - c.args.stop.left) refl _ c.place_at-then-stop.ensures c.if-stop.true
+    let apart = rw c.if-is_minus.false at c.in_ok-is_minus.ensures in
+    refusal_deep c.args.tokens.now c.args.stop c.requires.few c.requires.stops (length c.args.tokens.now - c.args.stop.left) refl _ c.place_at-then-stop.ensures apart c.if-stop.true
 
 pub expected-requires : goal.expected-requires
 expected-requires c =
@@ -19,4 +21,5 @@ expected-requires c =
 
 pub returns : goal.returns
 returns c =
-    refusal_syntax c.args.tokens.now c.args.stop c.requires.few c.requires.stops (length c.args.tokens.now - c.args.stop.left) refl _ c.place_at-2.ensures _ _ c.if-stop.false c.split_at.ensures.front c.in_ok-code.ensures
+    let apart = rw c.if-is_minus.false at c.in_ok-is_minus.ensures in
+    refusal_syntax c.args.tokens.now c.args.stop c.requires.few c.requires.stops (length c.args.tokens.now - c.args.stop.left) refl _ c.place_at-2.ensures apart _ _ c.if-stop.false c.split_at.ensures.front c.in_ok-code.ensures.code c.in_ok-code.ensures.least

@@ -1,7 +1,7 @@
 use Rattle.std.proofs.Common.{◌∙◌, refl, Err}
 use Rattle.std.proofs.lemmas.Result.{err_from_is_err_and}
 use Rattle.pl_top.specs.declared.fetch.Fault.TheVariants.{Memory}
-use Rattle.pl_top.specs.Checks.{said, IfRefused}
+use Rattle.pl_top.specs.Checks.{said}
 use Rattle.pl_top.specs.Lines.{accepted, limit_file}
 use Rattle.pl_top.specs.Judging.{Refuses, IsAccepted, checked, not_checked, too_long, taken}
 use Rattle.pl_top.specs.Calls.{none}

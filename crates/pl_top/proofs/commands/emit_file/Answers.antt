@@ -8,7 +8,7 @@ use Rattle.pl_top.specs.Judging.{says, put_text, Refuses, not_emitted, too_long,
 use Rattle.pl_top.specs.Calls.{none, emit_text}
 use Rattle.pl_top.specs.Goes.{IsProgramOf}
 use Rattle.pl_top.proofs.Delivered.{puts_from, others_at}
-use Rattle.pl_top.proofs.Promises.{counted_in, counted_out, did_nothing, did_say, did_not_put, did_behind, did_from, emit_did, text_at, same_in}
+use Rattle.pl_top.proofs.Promises.{counted_in, counted_out, did_nothing, did_say, did_not_put, did_behind, emit_did, text_at, same_in}
 use Rattle.pl_top.proofs.commands.emit_file.Goals as goal
 
 pub returns-in_err-file-clause-does : goal.returns-in_err-file-clause-does

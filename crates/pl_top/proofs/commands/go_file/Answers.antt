@@ -31,9 +31,9 @@ returns-in_err-input-clause-does g c =
 
 pub returns-in_default-input-clause-does : goal.returns-in_default-input-clause-does
 returns-in_default-input-clause-does g c =
-    did_say _ _ _ _ _ _ _ c.say.result 10 _ limit_input
-    (taken c.in-Bytes.bytes.items (rw c.in-Bytes.is at c.in_ok-file.ensures.takes) _ (input_too_long (reads_at _ _ _ _ long c.in_ok-file.ensures.same.1 c.say.ensures.same.1 (rw c.in_default-input.is at c.in_ok-input.ensures.reads))))
-    (c.say.ensures.same.0 ∙ c.in_ok-input.ensures.same.0 ∙ c.in_ok-file.ensures.same.0) (c.in_ok-input.ensures.same.1 ∙ c.in_ok-file.ensures.same.2) c.limit_input.ensures c.say.ensures.whole c.say.ensures.part c.say.ensures.outward
+    did_say _ _ _ _ _ _ _ c.say_long_input.result 10 _ limit_input
+    (taken c.in-Bytes.bytes.items (rw c.in-Bytes.is at c.in_ok-file.ensures.takes) _ (input_too_long (reads_at _ _ _ _ long c.in_ok-file.ensures.same.1 c.say_long_input.ensures.same.1 (rw c.in_default-input.is at c.in_ok-input.ensures.reads))))
+    (c.say_long_input.ensures.same.0 ∙ c.in_ok-input.ensures.same.0 ∙ c.in_ok-file.ensures.same.0) (c.in_ok-input.ensures.same.1 ∙ c.in_ok-file.ensures.same.2) refl c.say_long_input.ensures.whole c.say_long_input.ensures.part c.say_long_input.ensures.outward
 
 pub returns-in_err-put_file-in-Ok-clause-does : goal.returns-in_err-put_file-in-Ok-clause-does
 returns-in_err-put_file-in-Ok-clause-does g c =
@@ -64,7 +64,7 @@ returns-in-Ok-clause-does g c =
 pub returns-in-Err-Refused-clause-does : goal.returns-in-Err-Refused-clause-does
 returns-in-Err-Refused-clause-does g c =
     let arm = c.in-Err-Refused in
-    let say = c.say-in-Err-Refused in
+    let say = c.say in
     let refused = text_at (λ b. JudgesGo b c.args.name.now c.args.opts.now c.as_slice-2.result.now (said arm.answer)) _ _ c.as_slice.ensures.value (rw arm.field-0-is at arm.ensures.refused c.args.name.now c.args.opts.now) in
     let judged = text_at (λ b. JudgesGo c.in-Bytes.bytes.items c.args.name.now c.args.opts.now b (said arm.answer)) _ _ c.as_slice-2.ensures.value refused in
     did_say _ _ _ _ _ _ _ say.result arm.answer.status _ arm.answer.text.items

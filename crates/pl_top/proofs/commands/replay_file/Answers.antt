@@ -39,14 +39,14 @@ returns-in_err-input-clause-does g c =
 
 pub returns-in_default-input-clause-does : goal.returns-in_default-input-clause-does
 returns-in_default-input-clause-does g c =
-    did_say _ _ _ _ _ _ _ c.say.result 10 _ limit_input
-    (taken c.in-Bytes.bytes.items (rw c.in-Bytes.is at c.in_ok-text.ensures.takes) _ (taken c.in-Bytes-events.events.items (takes_at _ _ c.args.history.now _ (whole c.in-Bytes-events.events.items) c.in_ok-text.ensures.same.0 (rw c.in-Bytes-events.is at c.in_ok-events.ensures.takes)) _ (input_too_long (reads_at _ _ _ _ long (c.in_ok-events.ensures.same.1 ∙ c.in_ok-text.ensures.same.1) c.say.ensures.same.1 (rw c.in_default-input.is at c.in_ok-input.ensures.reads)))))
-    (c.say.ensures.same.0 ∙ c.in_ok-input.ensures.same.0 ∙ c.in_ok-events.ensures.same.0 ∙ c.in_ok-text.ensures.same.0) (c.in_ok-input.ensures.same.1 ∙ c.in_ok-events.ensures.same.2 ∙ c.in_ok-text.ensures.same.2) c.limit_input.ensures c.say.ensures.whole c.say.ensures.part c.say.ensures.outward
+    did_say _ _ _ _ _ _ _ c.say_long_input.result 10 _ limit_input
+    (taken c.in-Bytes.bytes.items (rw c.in-Bytes.is at c.in_ok-text.ensures.takes) _ (taken c.in-Bytes-events.events.items (takes_at _ _ c.args.history.now _ (whole c.in-Bytes-events.events.items) c.in_ok-text.ensures.same.0 (rw c.in-Bytes-events.is at c.in_ok-events.ensures.takes)) _ (input_too_long (reads_at _ _ _ _ long (c.in_ok-events.ensures.same.1 ∙ c.in_ok-text.ensures.same.1) c.say_long_input.ensures.same.1 (rw c.in_default-input.is at c.in_ok-input.ensures.reads)))))
+    (c.say_long_input.ensures.same.0 ∙ c.in_ok-input.ensures.same.0 ∙ c.in_ok-events.ensures.same.0 ∙ c.in_ok-text.ensures.same.0) (c.in_ok-input.ensures.same.1 ∙ c.in_ok-events.ensures.same.2 ∙ c.in_ok-text.ensures.same.2) refl c.say_long_input.ensures.whole c.say_long_input.ensures.part c.say_long_input.ensures.outward
 
 pub returns-in-Ok-clause-does : goal.returns-in-Ok-clause-does
 returns-in-Ok-clause-does g c =
     let arm = c.in-Ok in
-    let say = c.say-in-Ok in
+    let say = c.say in
     let judged = judged_at _ _ _ _ _ _ _ c.as_slice.ensures.value c.as_slice-2.ensures.value c.as_slice-3.ensures.value arm.ensures.answer in
     did_say _ _ _ _ _ _ _ say.result arm.answer.status _ arm.answer.text.items
     (replay_judged c.args.name.now c.args.history.now c.in-Bytes.bytes.items c.in-Bytes-events.events.items c.in-Bytes-input.input.items _ _ _ (rw c.in-Bytes.is at c.in_ok-text.ensures.takes) (takes_at _ _ c.args.history.now _ (whole c.in-Bytes-events.events.items) c.in_ok-text.ensures.same.0 (rw c.in-Bytes-events.is at c.in_ok-events.ensures.takes)) (reads_at _ _ _ _ (whole c.in-Bytes-input.input.items) (c.in_ok-events.ensures.same.1 ∙ c.in_ok-text.ensures.same.1) say.ensures.same.1 (rw c.in-Bytes-input.is at c.in_ok-input.ensures.reads)) (said arm.answer) judged)

@@ -1,6 +1,6 @@
 use Rattle.std.proofs.Common.{◌≡◌, drop}
 use Rattle.pl_syntax.specs.Plain.{plain_stmts}
-use Rattle.pl_types.specs.Stmts.{have_action}
+use Rattle.pl_syntax.specs.StmtRules.{have_action}
 use Rattle.pl_types.proofs.actions.+actions.Given as goal
 
 abbrev pub invariant-have_action-loop-s : goal.invariant-have_action-loop-s

@@ -1,8 +1,8 @@
 use Rattle.std.proofs.Common.{◌∙◌, ◌+◌, ◌||◌, ap, drop}
 use Rattle.std.specs.Option.{is_some}
 use Rattle.pl_syntax.specs.Plain.{plain_stmt, plain_stmts}
-use Rattle.pl_types.specs.Breaches.{earlier, least}
-use Rattle.pl_types.specs.Stmts.{action_place, second_action, second_actions}
+use Rattle.pl_syntax.specs.Breaches.{earlier, least}
+use Rattle.pl_syntax.specs.StmtRules.{action_place, second_action, second_actions}
 use Rattle.pl_types.proofs.Drops.{dropped}
 use Rattle.pl_types.proofs.Leasts.{fold_least}
 use Rattle.pl_types.proofs.actions.second_actions.Goals as goal

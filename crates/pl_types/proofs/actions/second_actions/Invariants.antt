@@ -1,7 +1,7 @@
 use Rattle.std.proofs.Common.{◌≡◌, drop, false}
 use Rattle.pl_syntax.specs.Plain.{plain_stmts}
-use Rattle.pl_types.specs.Breaches.{earlier, least}
-use Rattle.pl_types.specs.Stmts.{second_actions}
+use Rattle.pl_syntax.specs.Breaches.{earlier, least}
+use Rattle.pl_syntax.specs.StmtRules.{second_actions}
 use Rattle.pl_types.proofs.actions.second_actions.Given as goal
 
 abbrev pub invariant-loop-s : goal.invariant-loop-s

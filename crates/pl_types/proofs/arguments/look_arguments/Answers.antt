@@ -1,8 +1,8 @@
 use Rattle.std.proofs.Common.{◌≡◌, ◌∙◌, ◌+◌, ◌∷◌, sym, ap, map, drop}
 use Rattle.std.specs.List.{slice_get}
 use Rattle.pl_syntax.specs.Plain.{plain_expr}
-use Rattle.pl_types.specs.Breaches.{earlier, least}
-use Rattle.pl_types.specs.Props.{argument_breaches, arguments_breaches}
+use Rattle.pl_syntax.specs.Breaches.{earlier, least}
+use Rattle.pl_syntax.specs.PropRules.{argument_breaches, arguments_breaches}
 use Rattle.pl_types.proofs.Drops.{dropped, slice_get_drop, drop-drop_one}
 use Rattle.pl_types.proofs.Leasts.{fold_least}
 use Rattle.pl_types.proofs.arguments.look_arguments.Goals as goal

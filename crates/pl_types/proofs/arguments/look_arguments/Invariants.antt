@@ -1,7 +1,7 @@
 use Rattle.std.proofs.Common.{◌≡◌, drop, map}
 use Rattle.pl_syntax.specs.Plain.{plain_expr}
-use Rattle.pl_types.specs.Breaches.{earlier, least}
-use Rattle.pl_types.specs.Props.{arguments_breaches}
+use Rattle.pl_syntax.specs.Breaches.{earlier, least}
+use Rattle.pl_syntax.specs.PropRules.{arguments_breaches}
 use Rattle.pl_types.proofs.arguments.look_arguments.Given as goal
 
 abbrev pub invariant-loop-i : goal.invariant-loop-i

@@ -1,10 +1,10 @@
 use Rattle.std.proofs.Common.{◌≡◌, ◌∙◌, ◌+◌, ◌∷◌, ap, map, drop}
 use Rattle.std.specs.List.{slice_get}
 use Rattle.pl_syntax.specs.Plain.{plain_expr}
-use Rattle.pl_types.specs.declared.exprs.Mode.TheVariants as mode
-use Rattle.pl_types.specs.Breaches.{earlier, least}
-use Rattle.pl_types.specs.Known.{written}
-use Rattle.pl_types.specs.Props.{argument_breaches, arguments_breaches}
+use Rattle.pl_syntax.specs.declared.rules.Mode.TheVariants as mode
+use Rattle.pl_syntax.specs.Breaches.{earlier, least}
+use Rattle.pl_syntax.specs.Known.{written}
+use Rattle.pl_syntax.specs.PropRules.{argument_breaches, arguments_breaches}
 use Rattle.pl_types.proofs.Drops.{dropped}
 use Rattle.pl_types.proofs.Leasts.{fold_least}
 use Rattle.pl_types.proofs.arguments.look_written.Goals as goal

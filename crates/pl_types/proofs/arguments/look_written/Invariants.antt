@@ -1,9 +1,9 @@
 use Rattle.std.proofs.Common.{◌≡◌, drop, map}
 use Rattle.pl_syntax.specs.Plain.{plain_expr}
-use Rattle.pl_types.specs.declared.exprs.Mode.TheVariants as mode
-use Rattle.pl_types.specs.Breaches.{earlier, least}
-use Rattle.pl_types.specs.Known.{written}
-use Rattle.pl_types.specs.Props.{arguments_breaches}
+use Rattle.pl_syntax.specs.declared.rules.Mode.TheVariants as mode
+use Rattle.pl_syntax.specs.Breaches.{earlier, least}
+use Rattle.pl_syntax.specs.Known.{written}
+use Rattle.pl_syntax.specs.PropRules.{arguments_breaches}
 use Rattle.pl_types.proofs.arguments.look_written.Given as goal
 
 abbrev pub invariant-loop-e : goal.invariant-loop-e

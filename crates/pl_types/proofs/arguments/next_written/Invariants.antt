@@ -1,5 +1,5 @@
 use Rattle.std.proofs.Common.{◌≡◌, drop}
-use Rattle.pl_types.specs.Known.{written}
+use Rattle.pl_syntax.specs.Known.{written}
 use Rattle.pl_types.proofs.arguments.next_written.Given as goal
 
 abbrev pub invariant-loop-i : goal.invariant-loop-i

@@ -1,5 +1,5 @@
 use Rattle.std.proofs.Common.{◌≡◌, ◌+◌, ◌≤◌, length, drop}
-use Rattle.pl_types.specs.Known.{written}
+use Rattle.pl_syntax.specs.Known.{written}
 use Rattle.pl_types.proofs.arguments.written_count.Given as goal
 
 abbrev pub invariant-loop-b : goal.invariant-loop-b

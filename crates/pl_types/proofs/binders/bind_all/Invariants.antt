@@ -1,5 +1,5 @@
 use Rattle.std.proofs.Common.{◌≡◌, drop}
-use Rattle.pl_types.specs.Props.{bind_all}
+use Rattle.pl_syntax.specs.PropRules.{bind_all}
 use Rattle.pl_types.proofs.binders.bind_all.Given as goal
 
 abbrev pub invariant-loop-b : goal.invariant-loop-b

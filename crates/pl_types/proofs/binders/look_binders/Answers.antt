@@ -1,8 +1,8 @@
 use Rattle.std.proofs.Common.{◌≡◌, ◌∙◌, ◌+◌, ◌∷◌, ◌++◌, sym, ap, not, drop}
-use Rattle.pl_types.specs.declared.breach.Rule.TheVariants.{Twice}
-use Rattle.pl_types.specs.Breaches.{earlier, least, unless}
-use Rattle.pl_types.specs.Known.{put}
-use Rattle.pl_types.specs.Props.{binder_breaches, binders_breaches}
+use Rattle.pl_syntax.specs.declared.rules.Rule.TheVariants.{Twice}
+use Rattle.pl_syntax.specs.Breaches.{earlier, least, unless}
+use Rattle.pl_syntax.specs.Known.{put}
+use Rattle.pl_syntax.specs.PropRules.{binder_breaches, binders_breaches}
 use Rattle.pl_types.specs.Tables.{known_of, taken_in}
 use Rattle.pl_types.proofs.Drops.{dropped}
 use Rattle.pl_types.proofs.Leasts.{fold_least, least_append}

@@ -1,7 +1,7 @@
 use Rattle.std.proofs.Common.{◌≡◌, drop}
-use Rattle.pl_types.specs.Breaches.{earlier, least}
-use Rattle.pl_types.specs.Known.{nothing}
-use Rattle.pl_types.specs.Props.{binders_breaches}
+use Rattle.pl_syntax.specs.Breaches.{earlier, least}
+use Rattle.pl_syntax.specs.Known.{nothing}
+use Rattle.pl_syntax.specs.PropRules.{binders_breaches}
 use Rattle.pl_types.specs.Tables.{known_of, taken_in}
 use Rattle.pl_types.proofs.binders.look_binders.Given as goal
 

@@ -1,8 +1,8 @@
 use Rattle.std.proofs.Common.{◌≡◌, ◌∙◌, ◌+◌, ◌∷◌, refl, ap, map, drop}
 use Rattle.pl_syntax.specs.Plain.{plain_expr, plain_init}
-use Rattle.pl_types.specs.Breaches.{earlier, least}
-use Rattle.pl_types.specs.Known.{sort_in}
-use Rattle.pl_types.specs.Stmts.{init_breaches, inits_breaches}
+use Rattle.pl_syntax.specs.Breaches.{earlier, least}
+use Rattle.pl_syntax.specs.Known.{sort_in}
+use Rattle.pl_syntax.specs.StmtRules.{init_breaches, inits_breaches}
 use Rattle.pl_types.proofs.Drops.{dropped}
 use Rattle.pl_types.proofs.Leasts.{fold_least}
 use Rattle.pl_types.proofs.calls.look_inits.Goals as goal

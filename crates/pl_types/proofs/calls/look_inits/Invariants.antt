@@ -1,7 +1,7 @@
 use Rattle.std.proofs.Common.{◌≡◌, drop, map}
 use Rattle.pl_syntax.specs.Plain.{plain_init}
-use Rattle.pl_types.specs.Breaches.{earlier, least}
-use Rattle.pl_types.specs.Stmts.{inits_breaches}
+use Rattle.pl_syntax.specs.Breaches.{earlier, least}
+use Rattle.pl_syntax.specs.StmtRules.{inits_breaches}
 use Rattle.pl_types.proofs.calls.look_inits.Given as goal
 
 abbrev pub invariant-loop-init : goal.invariant-loop-init

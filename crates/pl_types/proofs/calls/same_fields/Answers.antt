@@ -3,7 +3,7 @@ use Rattle.std.specs.Option.{is_some}
 use Rattle.std.specs.List.{slice_get}
 use Rattle.std.proofs.lemmas.List.{drop_all}
 use Rattle.pl_syntax.specs.Plain.{plain_init}
-use Rattle.pl_types.specs.Stmts.{is_field, same_fields}
+use Rattle.pl_syntax.specs.StmtRules.{is_field, same_fields}
 use Rattle.pl_types.proofs.Drops.{dropped}
 use Rattle.pl_types.proofs.ZipLaws.{flip, fields_step, fields_end, lent_some}
 use Rattle.pl_types.proofs.calls.same_fields.Goals as goal

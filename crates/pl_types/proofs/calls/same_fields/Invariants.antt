@@ -1,6 +1,6 @@
 use Rattle.std.proofs.Common.{◌≡◌, drop, map}
 use Rattle.pl_syntax.specs.Plain.{plain_init}
-use Rattle.pl_types.specs.Stmts.{same_fields}
+use Rattle.pl_syntax.specs.StmtRules.{same_fields}
 use Rattle.pl_types.proofs.calls.same_fields.Given as goal
 
 abbrev pub invariant-loop-i : goal.invariant-loop-i

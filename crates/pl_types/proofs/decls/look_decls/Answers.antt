@@ -1,9 +1,9 @@
 use Rattle.std.proofs.Common.{◌≡◌, ◌∙◌, ◌+◌, ◌∷◌, ◌++◌, sym, ap, not, map, drop}
 use Rattle.pl_syntax.specs.Plain.{plain_decl}
-use Rattle.pl_types.specs.declared.breach.Rule.TheVariants.{Twice}
-use Rattle.pl_types.specs.Breaches.{earlier, least, unless}
-use Rattle.pl_types.specs.Decls.{decl_breaches, decls_breaches, name_of, place_of}
-use Rattle.pl_types.specs.Known.{put}
+use Rattle.pl_syntax.specs.declared.rules.Rule.TheVariants.{Twice}
+use Rattle.pl_syntax.specs.Breaches.{earlier, least, unless}
+use Rattle.pl_syntax.specs.DeclRules.{decl_breaches, decls_breaches, name_of, place_of}
+use Rattle.pl_syntax.specs.Known.{put}
 use Rattle.pl_types.specs.Tables.{known_of, taken_in}
 use Rattle.pl_types.proofs.Drops.{dropped}
 use Rattle.pl_types.proofs.Leasts.{fold_least, least_append}

@@ -1,8 +1,8 @@
 use Rattle.std.proofs.Common.{◌≡◌, drop, map}
 use Rattle.pl_syntax.specs.Plain.{plain_decl}
-use Rattle.pl_types.specs.Breaches.{earlier, least}
-use Rattle.pl_types.specs.Decls.{decls_breaches}
-use Rattle.pl_types.specs.Known.{nothing}
+use Rattle.pl_syntax.specs.Breaches.{earlier, least}
+use Rattle.pl_syntax.specs.DeclRules.{decls_breaches}
+use Rattle.pl_syntax.specs.Known.{nothing}
 use Rattle.pl_types.specs.Tables.{known_of, taken_in}
 use Rattle.pl_types.proofs.decls.look_decls.Given as goal
 

@@ -1,6 +1,6 @@
 use Rattle.std.proofs.Common.{◌≡◌, drop, false}
 use Rattle.pl_syntax.specs.Plain.{plain_stmts}
-use Rattle.pl_types.specs.Decls.{last_returns}
+use Rattle.pl_syntax.specs.DeclRules.{last_returns}
 use Rattle.pl_types.proofs.decls.returns.Given as goal
 
 abbrev pub invariant-loop-s : goal.invariant-loop-s

@@ -1,6 +1,6 @@
 use Rattle.std.proofs.Common.{◌≡◌, ◌∙◌, ◌&&◌, sym, ap, Some}
-use Rattle.pl_types.specs.Breaches.{earlier, least}
-use Rattle.pl_types.specs.Exprs as spec
+use Rattle.pl_syntax.specs.Breaches.{earlier, least}
+use Rattle.pl_syntax.specs.ExprRules as spec
 use Rattle.pl_types.specs.Held as held
 use Rattle.pl_types.proofs.Leasts.{least_append}
 use Rattle.pl_types.proofs.exprs.operands.Goals as goal

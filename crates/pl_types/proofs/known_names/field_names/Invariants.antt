@@ -1,6 +1,6 @@
 use Rattle.std.proofs.Common.{◌≡◌, map, drop}
 use Rattle.pl_syntax.specs.Plain.{plain_decl}
-use Rattle.pl_types.specs.Known.{fields_of, nothing}
+use Rattle.pl_syntax.specs.Known.{fields_of, nothing}
 use Rattle.pl_types.specs.Tables.{taken_in}
 use Rattle.pl_types.proofs.known_names.field_names.Given as goal
 

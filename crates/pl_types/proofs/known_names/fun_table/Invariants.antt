@@ -1,6 +1,6 @@
 use Rattle.std.proofs.Common.{◌≡◌, ◌≤◌, length, map, drop}
 use Rattle.pl_syntax.specs.Plain.{plain_decl}
-use Rattle.pl_types.specs.Known.{funs_of}
+use Rattle.pl_syntax.specs.Known.{funs_of}
 use Rattle.pl_types.specs.Tables.{funs_in}
 use Rattle.pl_types.proofs.known_names.fun_table.Given as goal
 

@@ -1,6 +1,6 @@
 use Rattle.std.proofs.Common.{◌≡◌, ◌≤◌, length, map, drop}
 use Rattle.pl_syntax.specs.Plain.{plain_decl}
-use Rattle.pl_types.specs.Known.{preds_of}
+use Rattle.pl_syntax.specs.Known.{preds_of}
 use Rattle.pl_types.specs.Tables.{lists_in}
 use Rattle.pl_types.proofs.known_names.pred_table.Given as goal
 

@@ -1,5 +1,5 @@
 use Rattle.std.proofs.Common.{◌≡◌, drop}
-use Rattle.pl_types.specs.Known.{put_fields}
+use Rattle.pl_syntax.specs.Known.{put_fields}
 use Rattle.pl_types.specs.Tables.{taken_in}
 use Rattle.pl_types.proofs.known_names.put_fields.Given as goal
 

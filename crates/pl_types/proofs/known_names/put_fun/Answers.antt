@@ -5,7 +5,7 @@ use Rattle.std.proofs.lemmas.Map.Text.{hash_map_updates_str}
 use Rattle.pl_syntax.specs.declared.program.FunDecl as code
 use Rattle.pl_syntax.specs.Plain.{plain_decl, plain_fun}
 use Rattle.pl_types.specs.declared.tables.Callee.{Callee}
-use Rattle.pl_types.specs.Known.{Placed, with_fun}
+use Rattle.pl_syntax.specs.Known.{Placed, with_fun}
 use Rattle.pl_types.specs.Tables.{callee, funs_in}
 use Rattle.pl_types.proofs.TableLaws.{fun_put}
 use Rattle.pl_types.proofs.known_names.put_fun.Goals as goal

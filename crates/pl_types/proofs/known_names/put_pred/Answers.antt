@@ -5,7 +5,7 @@ use Rattle.std.specs.Str.{bytes_eq}
 use Rattle.std.proofs.lemmas.Map.Text.{hash_map_updates_str}
 use Rattle.pl_syntax.specs.declared.expr.Binder.{Binder}
 use Rattle.pl_syntax.specs.Plain.{plain_decl}
-use Rattle.pl_types.specs.Known.{with_pred}
+use Rattle.pl_syntax.specs.Known.{with_pred}
 use Rattle.pl_types.specs.Tables.{lists_in}
 use Rattle.pl_types.proofs.TableLaws.{list_put}
 use Rattle.pl_types.proofs.known_names.put_pred.Goals as goal

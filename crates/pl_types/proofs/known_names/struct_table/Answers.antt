@@ -1,6 +1,6 @@
 use Rattle.std.proofs.Common.{◌≡◌, ◌∙◌, ◌+◌, ◌-◌, ◌<◌, ◌≤◌, ◌∷◌, sym, ap, length, map, drop, arith}
 use Rattle.pl_syntax.specs.Plain.{plain_decl}
-use Rattle.pl_types.specs.Known.{with_struct, structs_of}
+use Rattle.pl_syntax.specs.Known.{with_struct, structs_of}
 use Rattle.pl_types.proofs.Drops.{dropped}
 use Rattle.pl_types.proofs.known_names.struct_table.Goals as goal
 

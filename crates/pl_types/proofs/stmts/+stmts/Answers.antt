@@ -3,11 +3,11 @@ use Rattle.std.proofs.lemmas.List.{length-drop}
 use Rattle.pl_syntax.specs.declared.expr.Sort.TheVariants as sort
 use Rattle.pl_syntax.specs.Plain.{otherwise, plain_block, plain_expr, plain_prop, plain_stmt, plain_stmts}
 use Rattle.pl_syntax.specs.Tree as tree
-use Rattle.pl_types.specs.Breaches.{earlier, least}
-use Rattle.pl_types.specs.Exprs.{sorted, wanted}
+use Rattle.pl_syntax.specs.Breaches.{earlier, least}
+use Rattle.pl_syntax.specs.ExprRules.{sorted, wanted}
 use Rattle.pl_types.specs.Held.{lent, sorts}
-use Rattle.pl_types.specs.Props.{after_breaches}
-use Rattle.pl_types.specs.Stmts.{are_ghost, behind, behind_all, condition, stmt_breaches, stmts_breaches, under}
+use Rattle.pl_syntax.specs.PropRules.{after_breaches}
+use Rattle.pl_syntax.specs.StmtRules.{are_ghost, behind, behind_all, condition, stmt_breaches, stmts_breaches, under}
 use Rattle.pl_types.specs.Tables.{known_of}
 use Rattle.pl_types.proofs.ArmLaws.{choice_found, if_ok_to, lent_copied, loop_found, loop_left, opened_found}
 use Rattle.pl_types.proofs.Drops.{dropped}

@@ -1,8 +1,8 @@
 use Rattle.std.proofs.Common.{◌≡◌, ◌&&◌, drop}
 use Rattle.pl_syntax.specs.Plain.{plain_stmts}
-use Rattle.pl_types.specs.Breaches.{earlier, least}
+use Rattle.pl_syntax.specs.Breaches.{earlier, least}
 use Rattle.pl_types.specs.Held.{sorts}
-use Rattle.pl_types.specs.Stmts.{stmts_breaches, are_ghost, behind_all}
+use Rattle.pl_syntax.specs.StmtRules.{stmts_breaches, are_ghost, behind_all}
 use Rattle.pl_types.specs.Tables.{known_of}
 use Rattle.pl_types.proofs.stmts.+stmts.Given as goal
 

@@ -1,0 +1,13 @@
+pub mod ScopeLaws
+pub mod OpaqueLaws
+pub mod Sizes
+pub mod NumbersBelow
+pub mod Growing
+pub mod Comparing
+pub mod NewAtoms
+pub mod Calculating
+pub mod Connecting
+pub mod Expressions
+pub mod OrderLaws
+pub mod BoundLaws
+pub mod PuttingLaws

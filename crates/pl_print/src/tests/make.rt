@@ -1,0 +1,139 @@
+//! Trees for tests.
+
+use pl_base::{Items, Memory, Name, Perm, Pos};
+use pl_syntax::{
+    BinOp, Binder, CellExpr, Class, Expr, FunDecl, Instance, PermExpr, Prop, Sort, Stmt, Stmts,
+};
+use std::alloc::Global;
+use std::test::*;
+
+pub(crate) fn at() -> Pos {
+    Pos {
+        line: 1,
+        col: 1,
+        byte: 0,
+    }
+}
+
+pub(crate) fn name(alloc: Global, text: &str) -> Result<Name, Memory> {
+    Name::of(alloc, text)
+}
+
+pub(crate) fn int(n: i128) -> Expr {
+    Expr::Int(at(), n)
+}
+
+pub(crate) fn var(alloc: Global, text: &str) -> Result<Expr, Memory> {
+    Ok(Expr::Var(at(), name(alloc, text)?))
+}
+
+pub(crate) fn neg(alloc: Global, e: Expr) -> Result<Expr, Memory> {
+    Ok(Expr::Neg(at(), Box::new(alloc, e)?))
+}
+
+pub(crate) fn not(alloc: Global, e: Expr) -> Result<Expr, Memory> {
+    Ok(Expr::Not(at(), Box::new(alloc, e)?))
+}
+
+pub(crate) fn bin(alloc: Global, op: BinOp, left: Expr, right: Expr) -> Result<Expr, Memory> {
+    let first = Box::new(alloc, left)?;
+    Ok(Expr::Bin(at(), op, first, Box::new(alloc, right)?))
+}
+
+/// An operator between two variables.
+pub(crate) fn two(alloc: Global, op: BinOp, left: &str, right: &str) -> Result<Expr, Memory> {
+    let first = var(alloc, left)?;
+    bin(alloc, op, first, var(alloc, right)?)
+}
+
+/// A variable plus 1.
+pub(crate) fn next(alloc: Global, text: &str) -> Result<Expr, Memory> {
+    bin(alloc, BinOp::Add, var(alloc, text)?, int(1))
+}
+
+pub(crate) fn part(num: u32, den: u32, factor: Option<Name>) -> Result<PermExpr, Fail> {
+    Ok(PermExpr {
+        pos: at(),
+        part: Perm::new(num, den).ok_or("a part")?,
+        var: factor,
+    })
+}
+
+pub(crate) fn binder(
+    alloc: Global,
+    class: Class,
+    text: &str,
+    sort: Sort,
+) -> Result<Binder, Memory> {
+    Ok(Binder {
+        pos: at(),
+        class,
+        name: name(alloc, text)?,
+        sort,
+    })
+}
+
+/// A predicate without arguments.
+pub(crate) fn app(alloc: Global, text: &str) -> Result<Instance, Memory> {
+    Ok(Instance {
+        pos: at(),
+        pred: name(alloc, text)?,
+        args: Items::of(Vec::new(alloc)),
+    })
+}
+
+pub(crate) fn emp() -> Prop {
+    Prop::Emp(at())
+}
+
+pub(crate) fn star(alloc: Global, left: Prop, right: Prop) -> Result<Prop, Memory> {
+    let first = Box::new(alloc, left)?;
+    Ok(Prop::Star(first, Box::new(alloc, right)?))
+}
+
+/// The cell `r`.
+pub(crate) fn cell_r(alloc: Global) -> Result<CellExpr, Memory> {
+    Ok(CellExpr::Whole(name(alloc, "r")?))
+}
+
+/// A points-to of the cell `r`.
+pub(crate) fn points(alloc: Global, perm: PermExpr, e: Expr) -> Result<Prop, Memory> {
+    Ok(Prop::Points(at(), cell_r(alloc)?, perm, e))
+}
+
+pub(crate) fn one<T: Drop>(alloc: Global, item: T) -> Result<Items<T>, Memory> {
+    let mut list = Vec::new(alloc);
+    list.push(item)?;
+    Ok(Items::of(list))
+}
+
+pub(crate) fn pair<T: Drop>(alloc: Global, first: T, second: T) -> Result<Items<T>, Memory> {
+    let mut list = Vec::new(alloc);
+    list.push(first)?;
+    list.push(second)?;
+    Ok(Items::of(list))
+}
+
+pub(crate) fn block(list: Items<Stmt>) -> Stmts {
+    Stmts { list, close: at() }
+}
+
+pub(crate) fn empty_block(alloc: Global) -> Stmts {
+    block(Items::of(Vec::new(alloc)))
+}
+
+/// A real function without parameters and clauses.
+pub(crate) fn function(alloc: Global, text: &str, body: Stmts) -> Result<FunDecl, Memory> {
+    Ok(FunDecl {
+        pos: at(),
+        is_ghost: false,
+        name: name(alloc, text)?,
+        params: Items::of(Vec::new(alloc)),
+        opens: false,
+        before: emp(),
+        result: None,
+        after: emp(),
+        measure: None,
+        body,
+    })
+}
