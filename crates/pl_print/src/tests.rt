@@ -2,7 +2,5 @@
 
 mod declarations;
 mod expressions;
-mod ghosts;
 mod make;
 mod propositions;
-mod statements;

@@ -1,9 +1,7 @@
 //! Trees for tests.
 
-use pl_base::{Items, Memory, Name, Perm, Pos};
-use pl_syntax::{
-    BinOp, Binder, CellExpr, Class, Expr, FunDecl, Instance, PermExpr, Prop, Sort, Stmt, Stmts,
-};
+use pl_base::{Items, Memory, Name, Pos};
+use pl_syntax::{BinOp, Binder, Class, Expr, FunDecl, Prop, Sort, Stmt, Stmts};
 use std::alloc::Global;
 use std::test::*;
 
@@ -46,19 +44,6 @@ pub(crate) fn two(alloc: Global, op: BinOp, left: &str, right: &str) -> Result<E
     bin(alloc, op, first, var(alloc, right)?)
 }
 
-/// A variable plus 1.
-pub(crate) fn next(alloc: Global, text: &str) -> Result<Expr, Memory> {
-    bin(alloc, BinOp::Add, var(alloc, text)?, int(1))
-}
-
-pub(crate) fn part(num: u32, den: u32, factor: Option<Name>) -> Result<PermExpr, Fail> {
-    Ok(PermExpr {
-        pos: at(),
-        part: Perm::new(num, den).ok_or("a part")?,
-        var: factor,
-    })
-}
-
 pub(crate) fn binder(
     alloc: Global,
     class: Class,
@@ -73,15 +58,6 @@ pub(crate) fn binder(
     })
 }
 
-/// A predicate without arguments.
-pub(crate) fn app(alloc: Global, text: &str) -> Result<Instance, Memory> {
-    Ok(Instance {
-        pos: at(),
-        pred: name(alloc, text)?,
-        args: Items::of(Vec::new(alloc)),
-    })
-}
-
 pub(crate) fn emp() -> Prop {
     Prop::Emp(at())
 }
@@ -91,35 +67,14 @@ pub(crate) fn star(alloc: Global, left: Prop, right: Prop) -> Result<Prop, Memor
     Ok(Prop::Star(first, Box::new(alloc, right)?))
 }
 
-/// The cell `r`.
-pub(crate) fn cell_r(alloc: Global) -> Result<CellExpr, Memory> {
-    Ok(CellExpr::Whole(name(alloc, "r")?))
-}
-
-/// A points-to of the cell `r`.
-pub(crate) fn points(alloc: Global, perm: PermExpr, e: Expr) -> Result<Prop, Memory> {
-    Ok(Prop::Points(at(), cell_r(alloc)?, perm, e))
-}
-
 pub(crate) fn one<T: Drop>(alloc: Global, item: T) -> Result<Items<T>, Memory> {
     let mut list = Vec::new(alloc);
     list.push(item)?;
     Ok(Items::of(list))
 }
 
-pub(crate) fn pair<T: Drop>(alloc: Global, first: T, second: T) -> Result<Items<T>, Memory> {
-    let mut list = Vec::new(alloc);
-    list.push(first)?;
-    list.push(second)?;
-    Ok(Items::of(list))
-}
-
 pub(crate) fn block(list: Items<Stmt>) -> Stmts {
     Stmts { list, close: at() }
-}
-
-pub(crate) fn empty_block(alloc: Global) -> Stmts {
-    block(Items::of(Vec::new(alloc)))
 }
 
 /// A real function without parameters and clauses.
