@@ -1,6 +1,6 @@
 //! Declarations and whole programs.
 
-use super::make::{at, block, function, one};
+use super::make::{at, block, function, int, one};
 use crate::print;
 use pl_base::Items;
 use pl_syntax::{Decl, Program, Stmt};
