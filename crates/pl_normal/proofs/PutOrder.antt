@@ -21,7 +21,7 @@ use Rattle.pl_normal.specs.declared.scope.Binding.{Binding}
 use Rattle.pl_normal.specs.Scope.{Atom, Origin, Variable, Opaque}
 use Rattle.pl_normal.specs.Scope as origin
 use Rattle.pl_normal.specs.Normal.{Made, WithForm, Forms, put, then_form, same_form}
-use Rattle.pl_normal.specs.Meaning.{AreOlder, EachOlder, FactWithin, InOrder, Grows, FormInOrder}
+use Rattle.pl_normal.specs.Meaning.{AreOlder, EachOlder, FactWithin, InOrder, FormInOrder}
 use Rattle.pl_normal.specs.Putting.{Shown, shown_as, shown_atom, solved_for, is_older, stays, put_parts, put_form, again, changed, put_inside, put_solved, put_newer, put_atom, put_in}
 use Rattle.pl_normal.proofs.Growing.{then_form_is, within_more, facts_more, grows_not, grows_then, grows_length}
 use Rattle.pl_normal.proofs.NewAtoms.{atom_is, atom_within}
@@ -56,9 +56,9 @@ parts_order names solved one step low (p ∷ ps) f m r i s a w pf wf h =
     let wide : length m.atoms + 1 ≤ length x.0.made.atoms + 1 = omega arith in
     let some : p.coeff ≡ pos 0 → ⊥ = λ e. let z : true ≡ false = sym (ap is_zero e) ∙ a.1 in absurd cc in
     let last = parts_order names solved one step (p.atom + 1) ps y.0 x.0.made r o.0.in_order (all_more (length m.atoms + 1) (length x.0.made.atoms + 1) solved wide s) a.2
-        (λ k d lt. let q : (get_or ps k d).atom + 1 < length m.atoms + 1 = w (suc k) d (omega arith) in omega arith)
-        (plus_form f x.0.form p.coeff (Ok y.0) some pf o.1 y.1)
-        (plus_within (length x.0.made.atoms + 1) f x.0.form y.0 p.coeff (within_more (length m.atoms + 1) (length x.0.made.atoms + 1) f wide wf) o.2 y.1) y.2 in
+    (λ k d lt. let q : (get_or ps k d).atom + 1 < length m.atoms + 1 = w (suc k) d (omega arith) in omega arith)
+    (plus_form f x.0.form p.coeff (Ok y.0) some pf o.1 y.1)
+    (plus_within (length x.0.made.atoms + 1) f x.0.form y.0 p.coeff (within_more (length m.atoms + 1) (length x.0.made.atoms + 1) f wide wf) o.2 y.1) y.2 in
     (grows_then names m x.0.made r.made o.0 last.0, last.1, last.2)
 
 form_order :
@@ -118,10 +118,10 @@ inside_order names solved one step (Some o) a m r i s lt older h =
     let more : length m.atoms ≤ length x.0.made.atoms = grows_length names m x.0.made p.0 in
     let wide : length m.atoms + 1 ≤ length x.0.made.atoms + 1 = omega arith in
     let q = form_order names solved one step right x.0.made y.0 p.0.in_order (all_more (length m.atoms + 1) (length x.0.made.atoms + 1) solved wide s) older.1
-        (within_more (a + 1) (length x.0.made.atoms + 1) right (omega arith) older.3) y.1 in
+    (within_more (a + 1) (length x.0.made.atoms + 1) right (omega arith) older.3) y.1 in
     let still : length x.0.made.atoms ≤ length y.0.made.atoms = grows_length names x.0.made y.0.made q.0 in
     let z = changed_order names (same_form x.0.form left && same_form y.0.form right) o.e o.operands.op x.0.form y.0.form a y.0.made r q.0.in_order (omega arith) p.1 q.1
-        (within_more (length x.0.made.atoms + 1) (length y.0.made.atoms + 1) x.0.form (omega arith) p.2) q.2 y.2 in
+    (within_more (length x.0.made.atoms + 1) (length y.0.made.atoms + 1) x.0.form (omega arith) p.2) q.2 y.2 in
     (grows_then names m x.0.made r.made p.0 (grows_then names x.0.made y.0.made r.made q.0 z.0), z.1, z.2)
 
 -- what is so of all solved forms is so of that of a variable
@@ -189,7 +189,7 @@ pub put_in_order :
     (names : List Binding) (fresh : List ℕ) (solved : List Form) (f : Form) (before now : List Atom) (r : Result Form TermError) → All IsForm solved → IsForm f
     → Forms r (record { atoms = now; facts = [] }) (put_in fresh solved f (record { atoms = before; facts = [] }))
     → IfOk r (λ g. (facts : Facts) → InOrder names (record { atoms = before; facts = facts.list }) → All (Within (length before + 1)) solved → Within (length before + 1) f
-      → FormInOrder names (record { atoms = before; facts = facts.list }) (record { form = g; made = record { atoms = now; facts = facts.list } }))
+    → FormInOrder names (record { atoms = before; facts = facts.list }) (record { form = g; made = record { atoms = now; facts = facts.list } }))
 put_in_order names fresh solved f before now (Err e) are pf h = tt
 put_in_order names fresh solved f before now (Ok g) are pf h = λ facts i s w.
     with_facts names before now facts.list g i

@@ -1,8 +1,6 @@
-use Rattle.std.proofs.Common.{◌≡◌, map, length, rules, arith, subst, []}
+use Rattle.std.proofs.Common.{◌≡◌, map, length, arith}
 use Rattle.std.proofs.lemmas.Grind.{common_steps}
 use Rattle.pl_normal.specs.Scope.{plain_atom}
-use Rattle.pl_normal.specs.Normal.{made_of, Forms}
-use Rattle.pl_normal.specs.Putting.{put_form, put_atom}
 use Rattle.pl_normal.proofs.PuttingLaws.{all_forms}
 use Rattle.pl_normal.proofs.PutOrder.{put_in_order}
 use Rattle.pl_normal.proofs.putting.put_in.Goals as goal
