@@ -54,7 +54,7 @@ connected_goes names Ge a b form_a form_b goal_a goal_b s t p q h m r i e = comp
 connected_goes names Eq a b form_a form_b goal_a goal_b s t p q h m r i e = compared_goes names Eq h a b form_a form_b refl s t m r i e
 connected_goes names Ne a b form_a form_b goal_a goal_b s t p q h m r i e = compared_goes names Ne h a b form_a form_b refl s t m r i e
 
-opaque_makes :
+pub opaque_makes :
     (names : List Binding) (e : Expr) (op : BinOp) (f g : Form) (m : Made) (r : WithForm) → InOrder names m → IsForm f → IsForm g → Within (length m.atoms + 1) f → Within (length m.atoms + 1) g
     → ◌≡◌ {A = Result WithForm TermError} (Ok (opaque e op f g m)) (Ok r) → Makes names m r (λ u. calculated op (value u f) (value u g))
 opaque_makes names e op f g m r i pf pg wf wg h =

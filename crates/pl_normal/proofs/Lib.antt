@@ -11,3 +11,4 @@ pub mod Expressions
 pub mod OrderLaws
 pub mod BoundLaws
 pub mod PuttingLaws
+pub mod PutOrder

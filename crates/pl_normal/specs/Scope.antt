@@ -41,7 +41,7 @@ abbrev pub plain_atom : atom.Atom → Atom
 plain_atom a = record { origin = plain_origin a.origin; operands = a.operands }
 
 abbrev pub scope_of : scope.Scope → Scope
-scope_of s = record { atoms = map plain_atom s.atoms.items; bound = s.bound.items }
+scope_of s = record { atoms = map plain_atom s.atoms.items; bound = s.bound }
 
 -- where the atom of a number comes from
 abbrev pub origin_at : ℕ → Scope → Option Origin

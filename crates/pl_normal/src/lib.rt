@@ -1,6 +1,7 @@
 //! What names stand for, and the linear forms and duties of expressions.
 #![tactic(auto)]
 
+mod bindings;
 mod copying;
 mod forming;
 mod laws;

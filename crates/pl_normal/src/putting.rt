@@ -7,6 +7,7 @@ ghost use Rattle.pl_forms.specs.Steps.{plus};
 ghost use Rattle.pl_normal.specs.Scope.{scope_of, plain_origin, plain_atom};
 ghost use Rattle.pl_normal.specs.Normal.{same_form, made_of, Forms};
 ghost use Rattle.pl_normal.specs.Meaning.{EachOlder};
+ghost use Rattle.pl_normal.specs.Promises.{KeepsOrder};
 ghost use Rattle.pl_normal.specs.Putting.{solved_for, is_older, put_form, again, changed, shown_as, shown_atom, put_inside, put_newer, put_atom, put_in, plain_shown, AreForms, AllForms, AreShown};
 
 use crate::copying::copy_expr;
@@ -33,6 +34,7 @@ pub fn put_in(
     ensures exact { Forms result (made_of scope.new.atoms.items []) (put_in fresh.now solved.now form.now (made_of scope.old.atoms.items [])) }
     ensures names { (scope_of scope.new).bound ≡ (scope_of scope.old).bound }
     ensures form { IfOk result (λ f. IsForm f) }
+    ensures order { IfOk result (λ f. KeepsOrder solved.now form.now scope.old f scope.new) }
 {
     let depth = scope.atoms.len();
     put_form(scope.alloc, form, fresh, solved, depth, &mut scope.atoms)

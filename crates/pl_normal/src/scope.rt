@@ -8,6 +8,7 @@ ghost use Rattle.pl_normal.specs.Scope.{scope_of, plain_origin, origin_at, form_
 ghost use Rattle.pl_normal.specs.Normal.{made_by};
 ghost use Rattle.pl_normal.specs.Meaning.{InOrder};
 
+use crate::bindings::Bindings;
 use crate::copying::{copy_name, copy_sort};
 use pl_base::{Memory, Name, Perm};
 use pl_forms::Form;
@@ -52,7 +53,7 @@ pub struct Binding {
 pub struct Scope {
     pub(crate) alloc: Global,
     pub(crate) atoms: Vec<Atom>,
-    pub(crate) bound: Vec<Binding>,
+    pub(crate) bound: Bindings,
 }
 
 impl Scope {
@@ -63,7 +64,7 @@ impl Scope {
         Scope {
             alloc,
             atoms: Vec::new(alloc),
-            bound: Vec::new(alloc),
+            bound: Bindings::none(alloc),
         }
     }
 
@@ -112,18 +113,18 @@ impl Scope {
     }
 
     /// Where the names end that are bound now.
-    pub fn mark(&self) -> usize
+    pub fn mark(&self) -> u32
         ensures { result ≡ length (scope_of self.now).bound }
     {
-        self.bound.len()
+        self.bound.count()
     }
 
     /// Unbinds the names that were bound since the mark.
-    pub fn leave(&mut self, mark: usize)
+    pub fn leave(&mut self, mark: u32)
         ensures scope { scope_of self.new ≡ cut mark (scope_of self.old) }
         ensures order { (facts : Facts) → InOrder (scope_of self.old).bound (made_by self.old facts) → InOrder (scope_of self.new).bound (made_by self.new facts) }
     {
-        self.bound.truncate(mark);
+        self.bound.keep(mark);
     }
 }
 
