@@ -338,3 +338,6 @@ pub when_witness : (facts longer : List Fact) (c : Form) (e : Goal) (r : Result 
 when_witness facts longer c e (Err x) q k h = tt
 when_witness facts longer c e (Ok (d.Undone p)) q k h = tt
 when_witness facts longer c e (Ok (d.Done gs)) q k h = record { is = λ atoms w wg. rw q (h.is atoms (k.kept (atoms + 1) w wg.0) wg.1) }
+
+pub done_is : (P : List Group → Type 0) (x : Decided) (gs : List Group) → x ≡ d.Done gs → IfDone x P → P gs
+done_is P x gs e h = subst (λ y. IfDone y P) e h
