@@ -1,11 +1,9 @@
 -- The row of a form, to which the multiples are added that lead it to another form.
-use Rattle.std.proofs.Common.{◌≡◌, ◌≢◌, ℕ, zero, suc, ◌<◌, ◌≤◌, ◌+◌, ◌*◌, ◌^◌, ℤ, pos, negsuc, neg_ℤ, ◌+ℤ◌, ◌-ℤ◌, ◌*ℤ◌, unsigned_abs, int_eq, Bool, true, false, cond, List, [], ◌∷◌, ◌++◌, map, set, length, Option, Some, None, Result, Ok, Err, refl, ap, sym, subst, ◌∙◌, arith, All, length-set, le_trans, add-one}
+use Rattle.std.proofs.Common.{◌≡◌, ◌≢◌, ℕ, zero, suc, ◌<◌, ◌≤◌, ◌+◌, ◌*◌, ◌^◌, ℤ, pos, ◌+ℤ◌, ◌-ℤ◌, ◌*ℤ◌, unsigned_abs, int_eq, Bool, true, false, cond, List, [], ◌∷◌, ◌++◌, map, set, length, Some, Ok, refl, ap, subst, ◌∙◌, arith, All, length-set, le_trans, add-one}
 use Rattle.std.proofs.lemmas.Int.{ints}
 use Rattle.std.proofs.lemmas.List.{get_or-set_same, get_or-set_other}
-use lib.IntN.{*ℤ-zero, zero-*ℤ, pred_ℤ-*ℤ}
-use Rattle.pl_forms.specs.declared.form.Part.{Part}
+use lib.IntN.{zero-*ℤ}
 use Rattle.pl_forms.specs.declared.form.Form.{Form}
-use Rattle.pl_forms.specs.declared.form.TermError.{TermError}
 use Rattle.pl_forms.specs.declared.fact.EqTerm.{EqTerm}
 use Rattle.pl_forms.specs.declared.equation.Solution.{Solution}
 use Rattle.pl_forms.specs.Forms.{merge, excess, IsForm}

@@ -1,5 +1,5 @@
 -- What is a witness is one among other groups too.
-use Rattle.std.proofs.Common.{◌≡◌, ℕ, zero, suc, ◌<◌, ◌+◌, Bool, true, false, List, [], ◌∷◌, ◌++◌, length, slice_get, Option, Some, None, Result, Ok, Err, refl, ap, sym, ◌∙◌, arith}
+use Rattle.std.proofs.Common.{◌≡◌, ℕ, zero, suc, ◌+◌, Bool, true, false, List, [], ◌∷◌, ◌++◌, length, slice_get, Option, Some, None, Result, Ok, Err, refl, ap, sym, ◌∙◌, arith}
 use Rattle.std.proofs.lemmas.List.{append-nil, length-append}
 use Rattle.pl_forms.specs.declared.form.Form.{Form}
 use Rattle.pl_forms.specs.declared.form.TermError.{TermError}
@@ -14,7 +14,7 @@ use Rattle.pl_forms.specs.Goals.{Goal, Truth, Plain, Both, Either, When}
 use Rattle.pl_forms.specs.Assuming.{one_form, less_one, assumed}
 use Rattle.pl_linear.specs.Duty.{opposite_form}
 use Rattle.pl_linear.specs.Decisions.{with_zero}
-use Rattle.pl_linear.specs.Witnesses.{shows_below, shows_zero, shows_apart, behind, below_at, then_at, or_at, both_at, equal_at, absurd_by, apart_by, apart_at, shape_at, solved_at, plain_at, form_at, truth_at, then_witness, where_known, witness}
+use Rattle.pl_linear.specs.Witnesses.{shows_below, shows_zero, shows_apart, behind, below_at, then_at, or_at, both_at, equal_at, absurd_by, apart_by, apart_at, shape_at, solved_at, plain_at, form_at, then_witness, where_known, witness}
 
 -- groups among others
 abbrev pub among : List Group → List Group → List Group → List Group

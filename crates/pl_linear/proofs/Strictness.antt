@@ -1,5 +1,5 @@
 -- The multiples that are added stand in the order of solving, each equation at most once and never 0 times.
-use Rattle.std.proofs.Common.{◌≡◌, ℕ, zero, suc, ◌<◌, ◌≢◌, ℤ, pos, negsuc, neg_ℤ, nat_eq, int_eq, Bool, true, false, cond, List, [], ◌∷◌, ◌++◌, map, length, Result, Ok, Err, refl, ap, ◌∙◌, arith, All}
+use Rattle.std.proofs.Common.{◌≡◌, suc, ◌≢◌, ℤ, pos, neg_ℤ, nat_eq, int_eq, Bool, true, false, cond, List, [], ◌∷◌, ◌++◌, map, Result, Ok, Err, refl, ap, ◌∙◌, arith, All}
 use Rattle.std.proofs.lemmas.Int.{ints}
 use Rattle.std.proofs.lemmas.Bool.{eq-eqb}
 use Rattle.pl_forms.specs.declared.form.Form.{Form}

@@ -1,5 +1,5 @@
 -- The groups that were found are a witness.
-use Rattle.std.proofs.Common.{◌≡◌, ◌≢◌, ℕ, zero, suc, ◌<◌, ◌+◌, ℤ, pos, negsuc, neg_ℤ, ◌+ℤ◌, ◌-ℤ◌, ◌*ℤ◌, int_eq, nat_eq, not, ◌&&◌, Bool, true, false, cond, List, [], ◌∷◌, ◌++◌, map, length, replicate, slice_get, get_or, unsigned_abs, ◌≤◌, ◌⊎◌, inl, inr, ◌^◌, Option, Some, None, Result, Ok, Err, IfOk, refl, ap, sym, subst, ◌∙◌, arith, All}
+use Rattle.std.proofs.Common.{◌≡◌, ℕ, zero, suc, ◌<◌, ◌+◌, ℤ, pos, negsuc, neg_ℤ, ◌+ℤ◌, ◌*ℤ◌, int_eq, nat_eq, not, ◌&&◌, Bool, true, false, cond, List, [], ◌∷◌, ◌++◌, map, length, replicate, slice_get, get_or, unsigned_abs, ◌≤◌, ◌⊎◌, inl, inr, ◌^◌, Some, None, Result, Ok, Err, IfOk, refl, ap, sym, subst, ◌∙◌, arith, All}
 use Rattle.std.proofs.lemmas.Int.{ints}
 use Rattle.std.proofs.lemmas.Bool.{eqb-true}
 use Rattle.std.proofs.lemmas.List.Elements.{All-cons, All-nil}
@@ -8,7 +8,6 @@ use lib.IntN.{pred_ℤ-*ℤ, zero-*ℤ, *ℤ_comm}
 use Rattle.pl_forms.specs.declared.form.Part.{Part}
 use Rattle.pl_forms.specs.declared.form.Form.{Form}
 use Rattle.pl_forms.specs.declared.form.TermError.{TermError}
-use Rattle.pl_forms.specs.declared.fact.Shape.{Shape}
 use Rattle.pl_forms.specs.declared.fact.Shape.TheVariants.{Zero, Below, Differs}
 use Rattle.pl_forms.specs.declared.fact.Fact.{Fact}
 use Rattle.pl_forms.specs.declared.fact.EqTerm.{EqTerm}
@@ -19,9 +18,9 @@ use Rattle.pl_forms.specs.Forms.{IsForm}
 use Rattle.pl_forms.specs.Facts.{IsFact}
 use Rattle.pl_forms.specs.Equations.{AreSolutions, AreNamed, coeff_of, reduced}
 use Rattle.pl_forms.specs.Terms.{terms, between}
-use Rattle.pl_forms.specs.Rows.{at, then_more, form_times}
+use Rattle.pl_forms.specs.Rows.{at, form_times}
 use Rattle.pl_forms.specs.Places.{Within, AllWithin, AllSolvedWithin}
-use Rattle.pl_forms.specs.Goals.{Goal, Truth, Plain, Both, Either, When, GoalWithin}
+use Rattle.pl_forms.specs.Goals.{Goal, Truth, Plain, Both, Either, When}
 use Rattle.pl_forms.specs.Assuming.{one_form, less_one, assumed, KeepsWithin}
 use Rattle.pl_forms.specs.Solving.{solved}
 use Rattle.pl_forms.proofs.AssumingLaws.{one_within}
@@ -32,14 +31,14 @@ use Rattle.pl_linear.specs.declared.found.Found.TheVariants.{Cert, Point}
 use Rattle.pl_linear.specs.declared.found.Decided.{Decided}
 use Rattle.pl_linear.specs.declared.found.Decided.TheVariants as d
 use Rattle.pl_linear.specs.declared.differing.Match.{Match}
-use Rattle.pl_linear.specs.Certificates.{is_counted, add_eqs, all_zero, is_certificate}
+use Rattle.pl_linear.specs.Certificates.{is_counted, all_zero}
 use Rattle.pl_linear.specs.Duty.{zero_form, opposite_form}
 use Rattle.pl_linear.specs.FormRow.{multiples, row_of}
 use Rattle.pl_linear.specs.Nodes.{same_parts}
 use Rattle.pl_linear.specs.Findings.{IfCert}
 use Rattle.pl_linear.specs.Bounds.{no_bound, bound_at, AreGiven, IsCycleOf}
 use Rattle.pl_linear.specs.Decisions.{is_nought, is_apart, same_form, sign_of, differing, with_zero, joined}
-use Rattle.pl_linear.specs.Witnesses.{is_strict, all_strict, row_with, is_none, is_other, row_beside, shows_below, shows_zero, shows_apart, is_known, known_at, below_at, both_at, equal_at, apart_at, apart_by, absurd_by, plain_at, form_at, truth_at, witness, where_known, IsWitness, IfDone, IsOfBelow, IsOfEqual, IsOfApart}
+use Rattle.pl_linear.specs.Witnesses.{is_strict, all_strict, row_with, is_none, is_other, row_beside, shows_below, shows_zero, is_known, apart_by, absurd_by, IsWitness, IfDone, IsOfBelow, IsOfEqual, IsOfApart}
 use Rattle.pl_linear.proofs.FormRows.{plus_row, terms_row}
 use Rattle.pl_linear.proofs.ItemRows.{zero_row, zero_is, plus_zero, no_multiples, negated_size}
 use Rattle.pl_linear.proofs.Multiples.{length-multiples}

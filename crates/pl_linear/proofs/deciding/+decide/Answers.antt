@@ -1,5 +1,5 @@
 use Rattle.std.proofs.Common.{◌≡◌, true, false, Ok, None, IfOk, ap, rules}
-use Rattle.pl_forms.specs.Goals.{goal_of, Truth, Both, Either, When}
+use Rattle.pl_forms.specs.Goals.{goal_of, Truth}
 use Rattle.pl_forms.specs.Assuming.{assumed, KeepsWithin}
 use Rattle.pl_linear.specs.declared.found.Decided.TheVariants.{Done}
 use Rattle.pl_linear.specs.Witnesses.{IsWitness, IfDone}
