@@ -50,7 +50,7 @@ reduced_is eqs facts i f g ts c = reduced_form eqs f.form g c.solved c.form c.le
 inside : (eqs : List Solution) (facts : List Fact) (i : ℕ) (f : Fact) (g : Form) (ts : List EqTerm) (n : ℕ) → Counted eqs facts i f g ts → AllSolvedWithin n eqs → AllWithin n facts → Within n g
 inside eqs facts i f g ts n c a w = reduced_within n eqs f.form g a (got facts i f (λ f. Within n f.form) w c.at_i) c.leads
 
-forward_given : (eqs : List Solution) (facts : List Fact) (goal : Form) (i : ℕ) (f : Fact) (g : Form) (ts : List EqTerm) → Counted eqs facts i f g ts → ((d : List ℤ) → add_shape f.shape false f.form d ≡ form_times (pos 1) f.form d) → IsGiven eqs facts goal (record { form = tight_form g; item = fact_once i ts })
+pub forward_given : (eqs : List Solution) (facts : List Fact) (goal : Form) (i : ℕ) (f : Fact) (g : Form) (ts : List EqTerm) → Counted eqs facts i f g ts → ((d : List ℤ) → add_shape f.shape false f.form d ≡ form_times (pos 1) f.form d) → IsGiven eqs facts goal (record { form = tight_form g; item = fact_once i ts })
 forward_given eqs facts goal i f g ts c shape = record {
   once = refl;
   strict = ap (is_strict eqs) c.added ∙ terms_strict eqs f.form;
@@ -90,7 +90,7 @@ backward_given eqs facts goal i f g ts c s = record {
       ∙ ap Some (tight_row n (opposite_form g) (opposite_is g (reduced_is eqs facts i f g ts c)) (opposite_within (n + 1) g (inside eqs facts i f g ts (n + 1) c a w)));
 }
 
-below_shape : (f : Fact) → f.shape ≡ Below → (d : List ℤ) → add_shape f.shape false f.form d ≡ form_times (pos 1) f.form d
+pub below_shape : (f : Fact) → f.shape ≡ Below → (d : List ℤ) → add_shape f.shape false f.form d ≡ form_times (pos 1) f.form d
 below_shape f s d = rw s refl
 
 zero_shape : (f : Fact) → f.shape ≡ Zero → (d : List ℤ) → add_shape f.shape false f.form d ≡ form_times (pos 1) f.form d

@@ -24,3 +24,5 @@ pub mod Strictness
 pub mod Moved
 pub mod BesideRows
 pub mod Witnessed
+pub mod HintSums
+pub mod HintWhole
