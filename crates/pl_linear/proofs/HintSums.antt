@@ -1,9 +1,8 @@
 -- A hint whose multiples add to a positive constant gives a certificate, unless it is very long.
-use Rattle.std.proofs.Common.{◌≡◌, ◌≢◌, ℕ, zero, suc, ◌<◌, ◌≤◌, ◌+◌, ◌-◌, ◌*◌, ◌^◌, ◌/◌, ◌%◌, ℤ, pos, negsuc, neg_ℤ, ◌+ℤ◌, ◌-ℤ◌, ◌*ℤ◌, ◌≤ℤ◌, int_div, int_lt, int_le, int_eq, unsigned_abs, nat_eq, nat_lt, Bool, true, false, cond, List, [], ◌∷◌, ◌++◌, map, set, length, replicate, Option, Some, None, Result, Ok, Err, refl, ap, sym, subst, ◌∙◌, arith, All, length-set, le_trans, le_refl}
+use Rattle.std.proofs.Common.{◌≡◌, ℕ, zero, suc, ◌<◌, ◌≤◌, ◌+◌, ◌-◌, ◌*◌, ◌^◌, ◌/◌, ℤ, pos, negsuc, neg_ℤ, ◌+ℤ◌, ◌*ℤ◌, ◌≤ℤ◌, int_div, int_lt, int_le, int_eq, unsigned_abs, nat_eq, nat_lt, Bool, true, false, cond, List, [], ◌∷◌, map, set, length, replicate, Some, refl, ap, sym, ◌∙◌, arith, All, length-set, le_trans, le_refl}
 use Prim.Native.Nat.{◌∣◌}
 use Rattle.std.proofs.lemmas.Int.{ints}
 use Rattle.std.proofs.lemmas.Bool.{ltb-true}
-use Rattle.std.proofs.lemmas.Bool.Decides.{nat_tests}
 use Rattle.std.proofs.lemmas.List.{get_or-set_same, get_or-set_other, length-replicate}
 use Rattle.std.proofs.lemmas.Nat.Gcd.{dvd-zero}
 use Rattle.std.proofs.Math.Nat.{div-add-mod, mod-lt}
@@ -16,7 +15,7 @@ use Rattle.pl_forms.specs.declared.fact.CertItem.{CertItem}
 use Rattle.pl_forms.specs.declared.equation.Solution.{Solution}
 use Rattle.pl_forms.specs.Forms.{IsForm}
 use Rattle.pl_forms.specs.Equations.{coeff_of}
-use Rattle.pl_forms.specs.Rows.{at, then_more, add_rows, ceil_div}
+use Rattle.pl_forms.specs.Rows.{at, add_rows, ceil_div}
 use Rattle.pl_forms.specs.Tightening.{common, divided, tight_form}
 use Rattle.pl_forms.proofs.Divisors.{Each, more as divides, all_divided}
 use Rattle.pl_forms.proofs.FormSteps.{product_size}
@@ -28,7 +27,7 @@ use Rattle.pl_linear.specs.Certificates.{item_row, start_row, add_one, add_items
 use Rattle.pl_linear.specs.Hints.{at_least_one, own_row, add_own, add_all_own, items_of}
 use Rattle.pl_linear.proofs.FormRows.{put_some, sum_size}
 use Rattle.pl_linear.proofs.TightRows.{coeff_divided}
-use Rattle.pl_linear.proofs.BesideRows.{place, place_zero, place_more, zero_by}
+use Rattle.pl_linear.proofs.BesideRows.{place, place_zero, zero_by}
 
 -- a multiple of numbers was added to a row
 record RowsAdded (times : ℤ) (i : ℕ) (cs d e : List ℤ) : Type 0 where

@@ -1,16 +1,14 @@
 -- A hint of at most 2^24 terms does what the rule of hints says.
-use Rattle.std.proofs.Common.{◌≡◌, ◌≢◌, ℕ, zero, suc, ◌<◌, ◌≤◌, ◌+◌, ◌*◌, ◌^◌, ℤ, pos, negsuc, ◌*ℤ◌, int_lt, unsigned_abs, nat_eq, nat_lt, ◌&&◌, Bool, true, false, cond, List, [], ◌∷◌, ◌++◌, length, replicate, slice_get, Option, Some, None, Result, Ok, Err, refl, ap, sym, subst, ◌∙◌, arith, All, le_trans, mul-le-mul}
+use Rattle.std.proofs.Common.{◌≡◌, ℕ, zero, suc, ◌<◌, ◌≤◌, ◌+◌, ◌*◌, ◌^◌, ℤ, pos, negsuc, ◌*ℤ◌, int_lt, unsigned_abs, nat_eq, nat_lt, ◌&&◌, Bool, true, false, cond, List, [], ◌∷◌, ◌++◌, length, slice_get, Option, Some, None, Result, Ok, Err, refl, ap, subst, arith, All, le_trans, mul-le-mul}
 use Rattle.std.proofs.lemmas.Int.{ints}
 use Rattle.std.proofs.lemmas.Bool.Decides.{nat_tests}
 use Rattle.std.proofs.lemmas.List.{length-append}
 use Rattle.std.proofs.lemmas.List.Elements.{All-nil, All-push}
-use Rattle.pl_forms.specs.declared.form.Part.{Part}
 use Rattle.pl_forms.specs.declared.form.Form.{Form}
 use Rattle.pl_forms.specs.declared.form.TermError.{TermError}
 use Rattle.pl_forms.specs.declared.fact.Shape.{Shape}
 use Rattle.pl_forms.specs.declared.fact.Shape.TheVariants.{Zero, Below, Differs}
 use Rattle.pl_forms.specs.declared.fact.Fact.{Fact}
-use Rattle.pl_forms.specs.declared.fact.EqTerm.{EqTerm}
 use Rattle.pl_forms.specs.declared.equation.Solution.{Solution}
 use Rattle.pl_forms.specs.declared.equation.Eqs.{Eqs}
 use Rattle.pl_forms.specs.Forms.{IsForm}
@@ -31,22 +29,21 @@ use Rattle.pl_forms.proofs.SolvingLaws.{solved_forms, solved_within}
 use Rattle.pl_linear.specs.declared.hint.HintTerm.{HintTerm}
 use Rattle.pl_linear.specs.declared.hint.Written.{Written}
 use Rattle.pl_linear.specs.declared.hint.Hinted.{Hinted}
-use Rattle.pl_linear.specs.declared.hint.Hinted.TheVariants.{Done, Undone, Multiplier, Terms}
 use Rattle.pl_linear.specs.Duty.{one_form}
 use Rattle.pl_linear.specs.FormRow.{row_of}
-use Rattle.pl_linear.specs.Certificates.{is_counted, item_row, start_row, is_certificate}
-use Rattle.pl_linear.specs.Hints.{past, newest, are_known, then_written, fact_term, at_least_one, goal_term, with_reduced, with_counted, with_shape, with_fact, with_place, with_label, with_term, with_terms, writes_goal, with_goal, all_written, own_row, items_of, told, HintDone, judged, by_reduced, by_negated, by_solved, by_labels, by_shape, for_goal, unless_past, hinted, Hints}
-use Rattle.pl_linear.specs.HintRule.{adds_up, of_written, of_reduced, of_negated, of_solved, of_labels, of_shape, of_goal, by_rule}
+use Rattle.pl_linear.specs.Certificates.{is_counted, is_certificate}
+use Rattle.pl_linear.specs.Hints.{past, newest, are_known, then_written, fact_term, at_least_one, goal_term, with_reduced, with_counted, with_shape, with_fact, with_place, with_label, with_term, with_terms, writes_goal, with_goal, all_written, items_of, told, judged, by_reduced, by_negated, by_solved, by_labels, for_goal, unless_past, hinted, Hints}
+use Rattle.pl_linear.specs.HintRule.{adds_up, of_written, of_reduced, of_negated, of_solved, of_labels, of_goal, by_rule}
 use Rattle.pl_linear.proofs.CertificateLaws.{got}
 use Rattle.pl_linear.proofs.Multiples.{length-multiples}
 use Rattle.pl_linear.proofs.FormRows.{plus_row, terms_row}
 use Rattle.pl_linear.proofs.ItemRows.{one_row, one_is}
 use Rattle.pl_linear.proofs.TightRows.{tight_within}
 use Rattle.pl_linear.proofs.CycleItems.{row_place}
-use Rattle.pl_linear.proofs.Given.{Counted, forward_given, below_shape, goal_given}
+use Rattle.pl_linear.proofs.Given.{forward_given, below_shape, goal_given}
 use Rattle.pl_linear.proofs.BesideRows.{place, place_zero, place_more}
 use Rattle.pl_linear.proofs.HintLaws.{past_small}
-use Rattle.pl_linear.proofs.HintSums.{Pair, hint_closes, Rounded, goal_rounded}
+use Rattle.pl_linear.proofs.HintSums.{Pair, hint_closes, goal_rounded}
 
 -- what is known of the duty, its negation, and the facts
 record Env (n : ℕ) (eqs : List Solution) (facts : List Fact) (t h g : Form) : Type 0 where

@@ -1,5 +1,5 @@
 -- The rule of hints: a duty `t <= 0` is done where the written multiples of facts and of the negated goal add to a positive constant.
-use Rattle.std.specs.Prelude.{ℕ, ◌+◌, ℤ, pos, negsuc, Bool, true, false, List, replicate, Option, Some, None, Result, Ok, Err}
+use Rattle.std.specs.Prelude.{ℕ, ◌+◌, pos, negsuc, Bool, true, false, List, replicate, Option, Some, None, Result, Ok, Err}
 use Rattle.pl_forms.specs.declared.form.Form.{Form}
 use Rattle.pl_forms.specs.declared.form.TermError.{TermError}
 use Rattle.pl_forms.specs.declared.fact.Shape.{Shape}
@@ -12,11 +12,11 @@ use Rattle.pl_forms.specs.Equations.{reduced}
 use Rattle.pl_forms.specs.Terms.{terms}
 use Rattle.pl_forms.specs.Tightening.{common}
 use Rattle.pl_forms.specs.Solving.{solved}
-use Rattle.pl_forms.specs.Goals.{Goal, Truth, Plain, Both, Either, When}
+use Rattle.pl_forms.specs.Goals.{Goal, Plain}
 use Rattle.pl_linear.specs.declared.hint.HintTerm.{HintTerm}
 use Rattle.pl_linear.specs.declared.hint.Written.{Written}
 use Rattle.pl_linear.specs.declared.hint.Hinted.{Hinted}
-use Rattle.pl_linear.specs.declared.hint.Hinted.TheVariants.{Done, Undone, Multiplier, Terms}
+use Rattle.pl_linear.specs.declared.hint.Hinted.TheVariants.{Undone}
 use Rattle.pl_linear.specs.Duty.{one_form}
 use Rattle.pl_linear.specs.Certificates.{closing}
 use Rattle.pl_linear.specs.Hints.{past, are_known, all_written, add_all_own, items_of, told, unless_past}
