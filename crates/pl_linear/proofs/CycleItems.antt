@@ -82,7 +82,7 @@ coeff_past n a (p ∷ ps) w h =
       | false ↦ λ e. coeff_past n a ps (λ k d lt. w (suc k) d (omega arith)) h
     ]) refl
 
-row_place : (n a : ℕ) (f : Form) → Within (n + 1) f → at (row_of n f) (suc a) ≡ coeff_of a f.parts
+pub row_place : (n a : ℕ) (f : Form) → Within (n + 1) f → at (row_of n f) (suc a) ≡ coeff_of a f.parts
 row_place n a f w =
     elim (cases_lt a n) [
       | inl lt ↦ at_place n a f.parts lt

@@ -1,8 +1,8 @@
 -- What is done is so: whole numbers that meet the facts and the negation would give numbers for the nodes that meet all inequalities.
-use Rattle.std.proofs.Common.{◌≡◌, ◌≢◌, ℕ, zero, suc, ◌<◌, ◌+◌, ℤ, pos, negsuc, neg_ℤ, ◌+ℤ◌, ◌-ℤ◌, ◌*ℤ◌, ◌≤ℤ◌, int_div, int_eq, nat_eq, nat_lt, not, ◌&&◌, Bool, true, false, cond, List, [], ◌∷◌, ◌++◌, map, length, slice_get, Option, Some, None, Result, Ok, Err, refl, ap, sym, subst, ◌∙◌, arith, All, inl, inr}
+use Rattle.std.proofs.Common.{◌≡◌, ◌≢◌, ℕ, suc, ◌<◌, ℤ, pos, negsuc, ◌+ℤ◌, ◌*ℤ◌, ◌≤ℤ◌, int_div, int_eq, nat_eq, nat_lt, not, ◌&&◌, Bool, true, false, cond, List, [], ◌∷◌, ◌++◌, map, length, Option, Some, None, Result, Ok, Err, refl, ap, sym, subst, ◌∙◌, arith, All, inl, inr}
 use Rattle.std.proofs.lemmas.Int.{ints, by_lt_z}
 use Rattle.std.proofs.lemmas.Bool.{ltb-true, eqb-true}
-use Rattle.std.proofs.lemmas.List.Elements.{All-cons, All-nil, All-append, All-map}
+use Rattle.std.proofs.lemmas.List.Elements.{All-cons, All-nil, All-append}
 use lib.IntN.{pred_ℤ-*ℤ, zero-*ℤ, *ℤ-zero}
 use Rattle.pl_forms.specs.declared.form.Part.{Part}
 use Rattle.pl_forms.specs.declared.form.Form.{Form}
@@ -15,7 +15,7 @@ use Rattle.pl_forms.specs.declared.equation.Eqs.{Eqs}
 use Rattle.pl_forms.specs.Forms.{value, parts_value}
 use Rattle.pl_forms.specs.Facts.{MeetsShape, Meets, MeetsAll}
 use Rattle.pl_forms.specs.Steps.{plus}
-use Rattle.pl_forms.specs.Equations.{MeetsSolved, Follow, then_form, reduced, counted}
+use Rattle.pl_forms.specs.Equations.{MeetsSolved, then_form, reduced, counted}
 use Rattle.pl_forms.specs.Rows.{ceil_div}
 use Rattle.pl_forms.specs.Tightening.{common, divided, tight_form}
 use Rattle.pl_forms.specs.Solving.{solved}
@@ -29,10 +29,9 @@ use Rattle.pl_forms.proofs.Tightness.{common_is}
 use Rattle.pl_forms.proofs.Reducing.{then_is, reduced_value, counted_meets}
 use Rattle.pl_forms.proofs.SolvingLaws.{solved_follow}
 use Rattle.pl_forms.proofs.AssumingLaws.{assumed_met, less_value}
-use Rattle.pl_linear.specs.Ends.{minus, split}
-use Rattle.pl_linear.specs.Duty.{one_form, opposite_form, inequalities, with_inequalities, when_counted, look, then_forms, look_all, tightly, negation, with_negation, asked, asked_by, MeetsForm, Done}
+use Rattle.pl_linear.specs.Duty.{one_form, opposite_form, inequalities, with_inequalities, when_counted, look, then_forms, look_all, tightly, negation, with_negation, asked, asked_by, MeetsForm}
 use Rattle.pl_linear.specs.Nodes.{same_parts}
-use Rattle.pl_linear.specs.Decisions.{Outcome, done, refused, Becomes, IsStop, Then, is_nought, UnlessDone, EqualBy, IsEqual, is_apart, same_form, sign_of, differing, with_zero, Matched, DiffersBy, IsApart, ByShape, BySolved, IsPlain, OfForm, OfTruth, Where, Leads}
+use Rattle.pl_linear.specs.Decisions.{Outcome, done, Becomes, Then, is_nought, UnlessDone, EqualBy, is_apart, same_form, sign_of, differing, with_zero, Matched, DiffersBy, ByShape, BySolved, IsPlain, OfForm, Where, Leads}
 use Rattle.pl_linear.specs.declared.differing.Match.{Match}
 use Rattle.pl_linear.proofs.Splitting.{split_law, minus_value}
 use Rattle.pl_linear.proofs.Numbers.{parts_are}

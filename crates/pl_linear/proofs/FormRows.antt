@@ -1,5 +1,5 @@
 -- The row of a reduced form is that of the form, to which the multiples of solved equations are added.
-use Rattle.std.proofs.Common.{◌≡◌, ◌≢◌, ℕ, zero, suc, ◌<◌, ◌≤◌, ◌+◌, ◌*◌, ◌^◌, ℤ, pos, negsuc, ◌+ℤ◌, ◌*ℤ◌, unsigned_abs, int_eq, nat_eq, Bool, true, false, cond, List, [], ◌∷◌, ◌++◌, map, set, length, Some, Ok, refl, ap, sym, subst, ◌∙◌, arith, All, length-set, add-one}
+use Rattle.std.proofs.Common.{◌≡◌, ◌≢◌, ℕ, zero, suc, ◌<◌, ◌≤◌, ◌+◌, ◌*◌, ◌^◌, ℤ, pos, negsuc, ◌+ℤ◌, ◌*ℤ◌, unsigned_abs, int_eq, nat_eq, Bool, true, false, cond, List, [], ◌∷◌, ◌++◌, map, set, length, Some, Ok, refl, ap, sym, subst, ◌∙◌, arith, All, length-set, add-one, le_trans}
 use Rattle.std.proofs.lemmas.Int.{ints}
 use Rattle.std.proofs.lemmas.Bool.{eqb-true, eq-eqb}
 use Rattle.std.proofs.lemmas.List.{ext_get_or, get_or-set_same, get_or-set_other}
@@ -32,11 +32,11 @@ pub sum_size : (a b : ℤ) (m n : ℕ) → unsigned_abs a ≤ m → unsigned_abs
 sum_size a b m n h k = grind (arith, ints)
 
 -- k times the parts were added to a row, and no number passed its limit
-record Spread (k : ℤ) (ps : List Part) (d e : List ℤ) : Type 0 where
-  made_of : scatter k ps d ≡ Some e
-  long : length e ≡ length d
-  constant : at e 0 ≡ at d 0
-  places : (a : ℕ) → at e (a + 1) ≡ at d (a + 1) +ℤ (k *ℤ coeff_of a ps)
+pub record Spread (k : ℤ) (ps : List Part) (d e : List ℤ) : Type 0 where
+  pub made_of : scatter k ps d ≡ Some e
+  pub long : length e ≡ length d
+  pub constant : at e 0 ≡ at d 0
+  pub places : (a : ℕ) → at e (a + 1) ≡ at d (a + 1) +ℤ (k *ℤ coeff_of a ps)
 
 spread_place : (k : ℤ) (p : Part) (ps : List Part) (d : List ℤ) (a : ℕ) → Ascends (p.atom + 1) ps → p.atom + 1 < length d → (b : Bool) → nat_eq p.atom a ≡ b → at (set d (p.atom + 1) (at d (p.atom + 1) +ℤ (k *ℤ p.coeff))) (a + 1) +ℤ (k *ℤ coeff_of a ps) ≡ at d (a + 1) +ℤ (k *ℤ cond b p.coeff (coeff_of a ps))
 spread_place k p ps d a s w true e =
@@ -47,19 +47,20 @@ spread_place k p ps d a s w false e =
     let other : a + 1 ≢ p.atom + 1 = λ q. let t : nat_eq p.atom a ≡ true = eq-eqb p.atom a (omega arith) in absurd cc in
     ap (λ z. z +ℤ (k *ℤ coeff_of a ps)) (get_or-set_other d (p.atom + 1) (a + 1) (at d (p.atom + 1) +ℤ (k *ℤ p.coeff)) (pos 0) other)
 
-spread_size : (d : List ℤ) (i j : ℕ) (x : ℤ) → i < j → unsigned_abs (at d j) ≤ 2 ^ 40 → unsigned_abs (at (set d i x) j) ≤ 2 ^ 40
-spread_size d i j x h b = let other : j ≢ i = λ q. absurd (omega arith) in rw (get_or-set_other d i j x (pos 0) other) b
+pub spread_size : (d : List ℤ) (i j : ℕ) (x : ℤ) (l : ℕ) → i < j → unsigned_abs (at d j) ≤ l → unsigned_abs (at (set d i x) j) ≤ l
+spread_size d i j x l h b = let other : j ≢ i = λ q. absurd (omega arith) in rw (get_or-set_other d i j x (pos 0) other) b
 
-spread : (k : ℤ) (low : ℕ) (ps : List Part) (d : List ℤ) → unsigned_abs k ≤ 2 ^ 40 → Ascends low ps → Small ps → All (λ p. p.atom + 1 < length d) ps → ((a : ℕ) → low ≤ a → unsigned_abs (at d (a + 1)) ≤ 2 ^ 40) → (e : List ℤ) × Spread k ps d e
-spread k low [] d hk s m w b = (d, record { made_of = refl; long = refl; constant = refl; places = λ a. omega (arith, ints, *ℤ-zero k) })
-spread k low (p ∷ ps) d hk s m w b =
+-- .. k of at most m, to numbers of at most l
+pub spread : (k : ℤ) (low : ℕ) (ps : List Part) (d : List ℤ) (m l : ℕ) → unsigned_abs k ≤ m → l + m * 2 ^ 40 ≤ 2 ^ 126 → Ascends low ps → Small ps → All (λ p. p.atom + 1 < length d) ps → ((a : ℕ) → low ≤ a → unsigned_abs (at d (a + 1)) ≤ l) → (e : List ℤ) × Spread k ps d e
+spread k low [] d m l hk fits s sm w b = (d, record { made_of = refl; long = refl; constant = refl; places = λ a. omega (arith, ints, *ℤ-zero k) })
+spread k low (p ∷ ps) d m l hk fits s sm w b =
     let here : p.atom + 1 < length d = w 0 p (omega arith) in
     let x = at d (p.atom + 1) +ℤ (k *ℤ p.coeff) in
     let long : length (set d (p.atom + 1) x) ≡ length d = length-set d (p.atom + 1) x in
-    let product : unsigned_abs (k *ℤ p.coeff) ≤ 2 ^ 40 * 2 ^ 40 = product_size k p.coeff (2 ^ 40) (2 ^ 40) hk (m 0 p (omega arith)) in
-    let whole : unsigned_abs (at d (p.atom + 1) +ℤ (k *ℤ p.coeff)) ≤ 2 ^ 40 + 2 ^ 40 * 2 ^ 40 = sum_size (at d (p.atom + 1)) (k *ℤ p.coeff) (2 ^ 40) (2 ^ 40 * 2 ^ 40) (b p.atom s.0) product in
-    let put = put_some k p.coeff (p.atom + 1) d (omega arith) (omega arith) in
-    let r = spread k (p.atom + 1) ps (set d (p.atom + 1) x) hk s.2 (λ j z lt. m (suc j) z (omega arith)) (λ j z lt. rw long (w (suc j) z (omega arith))) (λ a h. spread_size d (p.atom + 1) (a + 1) x (omega arith) (b a (omega (arith, s.0)))) in (
+    let product : unsigned_abs (k *ℤ p.coeff) ≤ m * 2 ^ 40 = product_size k p.coeff m (2 ^ 40) hk (sm 0 p (omega arith)) in
+    let whole : unsigned_abs (at d (p.atom + 1) +ℤ (k *ℤ p.coeff)) ≤ l + m * 2 ^ 40 = sum_size (at d (p.atom + 1)) (k *ℤ p.coeff) l (m * 2 ^ 40) (b p.atom s.0) product in
+    let put = put_some k p.coeff (p.atom + 1) d (le_trans product (le_trans (le_more l (m * 2 ^ 40)) fits)) (le_trans whole fits) in
+    let r = spread k (p.atom + 1) ps (set d (p.atom + 1) x) m l hk fits s.2 (λ j z lt. sm (suc j) z (omega arith)) (λ j z lt. rw long (w (suc j) z (omega arith))) (λ a h. spread_size d (p.atom + 1) (a + 1) x l (omega arith) (b a (omega (arith, s.0)))) in (
       r.0,
       record {
         made_of = rw put r.1.made_of;
@@ -68,6 +69,9 @@ spread k low (p ∷ ps) d hk s m w b =
         places = λ a. r.1.places a ∙ spread_place k p ps d a s.2 here (nat_eq p.atom a) refl;
       },
     )
+  where
+    le_more : (l n : ℕ) → n ≤ l + n
+    le_more l n = omega arith
 
 pub at_place : (n a : ℕ) (ps : List Part) → a < n → at (multiples n 0 ps) a ≡ coeff_of a ps
 at_place n a ps h = let e : 0 + a ≡ a = omega arith in at-multiples n 0 a ps h ∙ ap (λ (k : ℕ). coeff_of k ps) e
@@ -80,7 +84,7 @@ some_is (pos zero) h = absurd (h refl)
 some_is (pos (suc n)) h = refl
 some_is (negsuc n) h = refl
 
-coeff_sum : (a : ℕ) (k : ℤ) (f s : Form) → IsForm f → IsForm s → k ≢ pos 0 → coeff_of a (merge f.parts (map (times_part k) s.parts)) ≡ coeff_of a f.parts +ℤ (k *ℤ coeff_of a s.parts)
+pub coeff_sum : (a : ℕ) (k : ℤ) (f s : Form) → IsForm f → IsForm s → k ≢ pos 0 → coeff_of a (merge f.parts (map (times_part k) s.parts)) ≡ coeff_of a f.parts +ℤ (k *ℤ coeff_of a s.parts)
 coeff_sum a k f s p q some =
     coeff-merge a 0 f.parts (map (times_part k) s.parts) p.ascends (ascends_times k 0 s.parts (some_is k some) q.ascends)
     ∙ ap (λ x. coeff_of a f.parts +ℤ x) (coeff-times a k s.parts)
@@ -108,7 +112,7 @@ plus_row n f s g k p q w some hk h =
     let whole : unsigned_abs (f.constant +ℤ (k *ℤ s.constant)) ≤ 2 ^ 80 + 2 ^ 40 * 2 ^ 80 = sum_size f.constant (k *ℤ s.constant) (2 ^ 80) (2 ^ 40 * 2 ^ 80) p.bounded product in
     let put = put_some k s.constant 0 (row_of n f) (omega arith) (omega arith) in
     let long = length-multiples n 0 f.parts in
-    let r = spread k 0 s.parts (z ∷ multiples n 0 f.parts) hk q.ascends q.small (λ j d lt. long_place n (length (multiples n 0 f.parts)) _ long (w j d lt)) (λ a le. rw (add-one) (multiples_small n 0 a f.parts p.small)) in
+    let r = spread k 0 s.parts (z ∷ multiples n 0 f.parts) (2 ^ 40) (2 ^ 40) hk (omega arith) q.ascends q.small (λ j d lt. long_place n (length (multiples n 0 f.parts)) _ long (w j d lt)) (λ a le. rw (add-one) (multiples_small n 0 a f.parts p.small)) in
     let o = limited_ok (excess (merge f.parts (map (times_part k) s.parts))) (merge f.parts (map (times_part k) s.parts)) z g h in
     let same : r.0 ≡ row_of n g = same_row n f s g k z r.0 some long p q o.1 o.2 r.1 in
     rw put (r.1.made_of ∙ ap Some same)

@@ -26,7 +26,9 @@ use Rattle.pl_linear.specs.Ends.{minus}
 use Rattle.pl_linear.specs.Duty.{one_form, zero_form, opposite_form, inequalities}
 use Rattle.pl_linear.specs.FormRow.{row_of}
 use Rattle.pl_linear.specs.Bounds.{minus_term, fact_once, back_once, goal_once, bounds_of, forms_of, IsGiven, GivenBy, KeepsGiven}
+use Rattle.pl_linear.specs.Witnesses.{is_strict}
 use Rattle.pl_linear.proofs.CertificateLaws.{got}
+use Rattle.pl_linear.proofs.Strictness.{terms_strict, minus_strict}
 use Rattle.pl_linear.proofs.FormRows.{plus_row, terms_row}
 use Rattle.pl_linear.proofs.ItemRows.{zero_row, one_row, zero_is, one_is, plus_opposite, small_from, row_small, finished_row, fact_item}
 use Rattle.pl_linear.proofs.TightRows.{tight_row, tight_within}
@@ -48,9 +50,10 @@ reduced_is eqs facts i f g ts c = reduced_form eqs f.form g c.solved c.form c.le
 inside : (eqs : List Solution) (facts : List Fact) (i : ℕ) (f : Fact) (g : Form) (ts : List EqTerm) (n : ℕ) → Counted eqs facts i f g ts → AllSolvedWithin n eqs → AllWithin n facts → Within n g
 inside eqs facts i f g ts n c a w = reduced_within n eqs f.form g a (got facts i f (λ f. Within n f.form) w c.at_i) c.leads
 
-forward_given : (eqs : List Solution) (facts : List Fact) (goal : Form) (i : ℕ) (f : Fact) (g : Form) (ts : List EqTerm) → Counted eqs facts i f g ts → ((d : List ℤ) → add_shape f.shape false f.form d ≡ form_times (pos 1) f.form d) → IsGiven eqs facts goal (record { form = tight_form g; item = fact_once i ts })
+pub forward_given : (eqs : List Solution) (facts : List Fact) (goal : Form) (i : ℕ) (f : Fact) (g : Form) (ts : List EqTerm) → Counted eqs facts i f g ts → ((d : List ℤ) → add_shape f.shape false f.form d ≡ form_times (pos 1) f.form d) → IsGiven eqs facts goal (record { form = tight_form g; item = fact_once i ts })
 forward_given eqs facts goal i f g ts c shape = record {
   once = refl;
+  strict = ap (is_strict eqs) c.added ∙ terms_strict eqs f.form;
   form = tight_is_form g (reduced_is eqs facts i f g ts c);
   within = λ n a w wg. tight_within n g (inside eqs facts i f g ts n c a w);
   row = λ n a w wg.
@@ -79,6 +82,7 @@ turned_item n eqs facts goal i f g ts c s x w =
 backward_given : (eqs : List Solution) (facts : List Fact) (goal : Form) (i : ℕ) (f : Fact) (g : Form) (ts : List EqTerm) → Counted eqs facts i f g ts → f.shape ≡ Zero → IsGiven eqs facts goal (record { form = tight_form (opposite_form g); item = back_once i ts })
 backward_given eqs facts goal i f g ts c s = record {
   once = refl;
+  strict = minus_strict eqs ts ∙ ap (is_strict eqs) c.added ∙ terms_strict eqs f.form;
   form = tight_is_form (opposite_form g) (opposite_is g (reduced_is eqs facts i f g ts c));
   within = λ n a w wg. tight_within n (opposite_form g) (opposite_within n g (inside eqs facts i f g ts n c a w));
   row = λ n a w wg.
@@ -86,7 +90,7 @@ backward_given eqs facts goal i f g ts c s = record {
       ∙ ap Some (tight_row n (opposite_form g) (opposite_is g (reduced_is eqs facts i f g ts c)) (opposite_within (n + 1) g (inside eqs facts i f g ts (n + 1) c a w)));
 }
 
-below_shape : (f : Fact) → f.shape ≡ Below → (d : List ℤ) → add_shape f.shape false f.form d ≡ form_times (pos 1) f.form d
+pub below_shape : (f : Fact) → f.shape ≡ Below → (d : List ℤ) → add_shape f.shape false f.form d ≡ form_times (pos 1) f.form d
 below_shape f s d = rw s refl
 
 zero_shape : (f : Fact) → f.shape ≡ Zero → (d : List ℤ) → add_shape f.shape false f.form d ≡ form_times (pos 1) f.form d
@@ -113,6 +117,7 @@ more_given eqs i f g ts before now m a p k r t e = record {
 pub goal_given : (eqs : List Solution) (goal h g : Form) (ts : List EqTerm) → AreNamed eqs → AreSolutions eqs → IsForm goal → plus one_form (negsuc 0) goal ≡ Ok h → reduced eqs h ≡ Ok g → terms eqs h ≡ ts → (facts : List Fact) → IsGiven eqs facts goal (record { form = tight_form g; item = goal_once ts })
 goal_given eqs goal h g ts m a p q r t facts = record {
   once = refl;
+  strict = ap (is_strict eqs) (sym t) ∙ terms_strict eqs h;
   form = tight_is_form g is;
   within = λ n x w wg. tight_within n g (reduced_within n eqs h g x (negated n wg) r);
   row = λ n x w wg.

@@ -1,11 +1,9 @@
 -- What a hint shows.
-use Rattle.std.proofs.Common.{◌≡◌, ℕ, zero, suc, ◌≤◌, ◌<◌, ◌+◌, ◌^◌, ℤ, pos, negsuc, nat_eq, nat_lt, ◌&&◌, Bool, true, false, cond, List, [], ◌∷◌, replicate, Option, Some, None, Result, Ok, Err, IfOk, refl, ap, sym, subst, ◌∙◌, arith, All}
+use Rattle.std.proofs.Common.{◌≡◌, ℕ, ◌≤◌, ◌+◌, ◌^◌, ℤ, pos, negsuc, nat_eq, nat_lt, ◌&&◌, Bool, true, false, cond, List, [], ◌∷◌, replicate, Option, Some, None, Result, Ok, Err, IfOk, refl, sym, subst, arith, All}
 use Rattle.std.proofs.lemmas.Bool.Decides.{nat_tests}
 use Rattle.std.proofs.lemmas.List.Elements.{All-cons, All-nil}
 use Rattle.pl_forms.specs.declared.form.Form.{Form}
 use Rattle.pl_forms.specs.declared.form.TermError.{TermError}
-use Rattle.pl_forms.specs.declared.form.TermError.TheVariants.{TooLarge, Memory}
-use Rattle.pl_forms.specs.declared.fact.Shape.{Shape}
 use Rattle.pl_forms.specs.declared.fact.Shape.TheVariants.{Zero, Below, Differs}
 use Rattle.pl_forms.specs.declared.fact.Fact.{Fact}
 use Rattle.pl_forms.specs.declared.fact.EqTerm.{EqTerm}
@@ -29,7 +27,7 @@ use Rattle.pl_linear.specs.declared.hint.Hinted.{Hinted}
 use Rattle.pl_linear.specs.declared.hint.Hinted.TheVariants.{Done, Undone, Multiplier, Terms}
 use Rattle.pl_linear.specs.Duty.{one_form}
 use Rattle.pl_linear.specs.Certificates.{closing, is_certificate}
-use Rattle.pl_linear.specs.Hints.{is_goal, past, are_known, add_all_own, items_of, HintDone, told, judged, all_written, by_reduced, by_negated, by_solved, by_labels, by_shape, for_goal, unless_past, hinted, Hints, IfShown, IsShownBy}
+use Rattle.pl_linear.specs.Hints.{is_goal, past, are_known, add_all_own, items_of, HintDone, told, judged, all_written, by_reduced, by_negated, by_solved, by_labels, for_goal, unless_past, hinted, Hints, IfShown, IsShownBy}
 use Rattle.pl_linear.proofs.CertificateLaws.{certificate_law}
 
 -- no limit is passed, so no multiplier is

@@ -25,7 +25,7 @@ use Rattle.pl_linear.specs.Duty.{zero_form, one_form, opposite_form}
 use Rattle.pl_linear.proofs.Multiples.{multiples_small}
 use Rattle.pl_linear.proofs.FormRows.{plus_row, terms_row}
 
-no_multiples : (n a : ℕ) → multiples n a [] ≡ replicate n (pos 0)
+pub no_multiples : (n a : ℕ) → multiples n a [] ≡ replicate n (pos 0)
 no_multiples zero a = refl
 no_multiples (suc n) a = ap (λ (l : List ℤ). pos 0 ∷ l) (no_multiples n (a + 1))
 
@@ -62,7 +62,7 @@ negated_size c n h = grind (arith, ints)
 pub minus_small : (ps : List Part) → Small ps → Small (map minus ps)
 minus_small ps s = All-map (λ p. unsigned_abs p.coeff ≤ 2 ^ 40) minus ps (λ k d lt. negated_size (get_or ps k d).coeff (2 ^ 40) (s k d lt))
 
-plus_zero : (f : Form) → IsForm f → plus zero_form (pos 1) f ≡ Ok f
+pub plus_zero : (f : Form) → IsForm f → plus zero_form (pos 1) f ≡ Ok f
 plus_zero f p =
     let constant : pos 0 +ℤ (pos 1 *ℤ f.constant) ≡ f.constant = omega (arith, ints, one_time f.constant) in
     rw (once f.parts, constant) (kept f.parts f.constant (small_none f.parts p.small) p.bounded)

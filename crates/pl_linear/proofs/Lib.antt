@@ -20,3 +20,9 @@ pub mod Matching
 pub mod DutyLaws
 pub mod WitnessLaws
 pub mod HintLaws
+pub mod Strictness
+pub mod Moved
+pub mod BesideRows
+pub mod Witnessed
+pub mod HintSums
+pub mod HintWhole

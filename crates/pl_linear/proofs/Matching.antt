@@ -1,5 +1,5 @@
 -- The disequality that is found.
-use Rattle.std.proofs.Common.{◌≡◌, ◌⊎◌, ℕ, zero, suc, ◌<◌, ◌+◌, Bool, true, false, List, [], ◌∷◌, length, get_or, slice_get, Option, Some, None, Result, Ok, Err, All, ap, sym, subst, ◌∙◌, arith, refl, inl, inr}
+use Rattle.std.proofs.Common.{◌≡◌, ◌⊎◌, ℕ, zero, suc, ◌<◌, ◌+◌, Bool, true, false, List, [], ◌∷◌, length, get_or, slice_get, Option, Some, None, Result, Ok, Err, ap, sym, subst, ◌∙◌, arith, refl, inl, inr}
 use Rattle.std.proofs.lemmas.Option.{slice_get-get_or}
 use Rattle.pl_forms.specs.declared.form.Form.{Form}
 use Rattle.pl_forms.specs.declared.form.TermError.{TermError}
@@ -9,9 +9,8 @@ use Rattle.pl_forms.specs.declared.fact.Shape.TheVariants.{Zero, Below, Differs}
 use Rattle.pl_forms.specs.declared.fact.Fact.{Fact}
 use Rattle.pl_forms.specs.declared.fact.EqTerm.{EqTerm}
 use Rattle.pl_forms.specs.declared.equation.Solution.{Solution}
-use Rattle.pl_base.specs.declared.items.Items.{Items}
 use Rattle.pl_forms.specs.Equations.{reduced, counted}
-use Rattle.pl_forms.specs.Terms.{IsRefusedBy, Leads}
+use Rattle.pl_forms.specs.Terms.{Leads}
 use Rattle.pl_linear.specs.declared.differing.Match.{Match}
 use Rattle.pl_linear.specs.Decisions.{Outcome, Decides, sign_of, sign_by, sign_counted, sign_shape, or_later, differing}
 

@@ -1,6 +1,5 @@
 -- What a point gives a node, the last of the inequalities, and disequalities that are known.
-use Rattle.std.proofs.Common.{◌≡◌, ℕ, zero, suc, ◌≤◌, ◌<◌, ◌+◌, ◌-◌, ℤ, pos, Bool, true, false, cond, List, [], ◌∷◌, map, drop, length, slice_get, Option, Some, None, Result, Ok, Err, refl, ap, sym, ◌∙◌, arith}
-use Rattle.std.proofs.Math.ListN.{get_or-map}
+use Rattle.std.proofs.Common.{◌≡◌, ℕ, zero, suc, ◌≤◌, ◌+◌, ◌-◌, Bool, true, cond, List, [], ◌∷◌, map, drop, length, slice_get, Option, Some, Result, Err, refl, ap, sym, ◌∙◌, arith}
 use Rattle.std.proofs.lemmas.List.{drop_all}
 use Rattle.pl_forms.specs.declared.form.Part.{Part}
 use Rattle.pl_forms.specs.declared.form.Form.{Form}
@@ -17,7 +16,7 @@ use Rattle.pl_linear.specs.Duty.{Done}
 use Rattle.pl_linear.specs.Findings.{Settles}
 use Rattle.pl_linear.specs.declared.bounds.Bound.{Bound}
 use Rattle.pl_linear.specs.declared.differing.Match.{Match}
-use Rattle.pl_linear.specs.Nodes.{same_parts, place_of, or_zero, number_of, value_at}
+use Rattle.pl_linear.specs.Nodes.{same_parts, place_of, or_zero, value_at}
 use Rattle.pl_linear.specs.Bounds.{forms_of}
 use Rattle.pl_linear.specs.Decisions.{last_form, sign_shape, or_later, differing}
 use Rattle.pl_linear.specs.Differing.{Signs, Matches}

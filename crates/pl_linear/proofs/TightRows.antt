@@ -53,7 +53,7 @@ common_multiples (suc n) a g (p ∷ ps) s w =
           ∙ common_multiples n (a + 1) g (p ∷ ps) (later, s.1, s.2) (λ k d lt. let h : _ < a + suc n = w k d lt in omega arith)
     ]) refl
 
-coeff_divided : (g a : ℕ) (ps : List Part) → coeff_of a (map (divided g) ps) ≡ int_div (coeff_of a ps) (pos g)
+pub coeff_divided : (g a : ℕ) (ps : List Part) → coeff_of a (map (divided g) ps) ≡ int_div (coeff_of a ps) (pos g)
 coeff_divided g a [] = ap pos (sym (zero-div g))
 coeff_divided g a (p ∷ ps) = elim (nat_eq p.atom a) as (λ b. cond b (int_div p.coeff (pos g)) (coeff_of a (map (divided g) ps)) ≡ int_div (cond b p.coeff (coeff_of a ps)) (pos g)) [ true ↦ refl | false ↦ coeff_divided g a ps ]
 

@@ -1,5 +1,5 @@
 -- What a witness shows.
-use Rattle.std.proofs.Common.{◌≡◌, ◌≢◌, ℕ, zero, suc, ◌<◌, ◌≤◌, ◌+◌, ◌^◌, ℤ, pos, negsuc, ◌+ℤ◌, ◌*ℤ◌, ◌≤ℤ◌, neg_ℤ, int_eq, nat_eq, Bool, true, false, cond, List, [], ◌∷◌, map, drop, length, replicate, slice_get, Option, Some, None, Result, Ok, Err, IfOk, IfSome, refl, ap, sym, subst, ◌∙◌, arith, All}
+use Rattle.std.proofs.Common.{◌≡◌, ◌≢◌, ℕ, zero, suc, ◌<◌, ◌≤◌, ◌+◌, ◌^◌, ℤ, pos, negsuc, ◌+ℤ◌, ◌*ℤ◌, ◌≤ℤ◌, int_eq, nat_eq, Bool, true, false, cond, List, [], ◌∷◌, map, drop, length, replicate, slice_get, Option, Some, None, Result, Ok, Err, IfOk, IfSome, refl, ap, sym, subst, ◌∙◌, arith, All}
 use Rattle.std.proofs.lemmas.Int.{ints}
 use Rattle.std.proofs.lemmas.Bool.Decides.{nat_tests}
 use Rattle.std.proofs.lemmas.List.{length-replicate}
@@ -8,7 +8,6 @@ use lib.IntN.{*ℤ_comm, pred_ℤ-*ℤ, zero-*ℤ}
 use Rattle.pl_forms.specs.declared.form.Part.{Part}
 use Rattle.pl_forms.specs.declared.form.Form.{Form}
 use Rattle.pl_forms.specs.declared.form.TermError.{TermError}
-use Rattle.pl_forms.specs.declared.form.TermError.TheVariants.{TooLarge, Memory}
 use Rattle.pl_forms.specs.declared.fact.Shape.{Shape}
 use Rattle.pl_forms.specs.declared.fact.Shape.TheVariants.{Zero, Below, Differs}
 use Rattle.pl_forms.specs.declared.fact.Fact.{Fact}
@@ -19,13 +18,13 @@ use Rattle.pl_forms.specs.declared.equation.Solution.{Solution}
 use Rattle.pl_forms.specs.declared.equation.Eqs.{Eqs}
 use Rattle.pl_forms.specs.Forms.{value, parts_value}
 use Rattle.pl_forms.specs.Facts.{MeetsShape, MeetsAll, Meets}
-use Rattle.pl_forms.specs.Equations.{MeetsSolved, Follow, counted}
-use Rattle.pl_forms.specs.Solving.{solved, Solves}
+use Rattle.pl_forms.specs.Equations.{Follow, counted}
+use Rattle.pl_forms.specs.Solving.{solved}
 use Rattle.pl_forms.specs.Places.{Within, AllWithin, AllSolvedWithin}
-use Rattle.pl_forms.specs.Rows.{then_more, form_times, row_value, placed, places_value}
+use Rattle.pl_forms.specs.Rows.{form_times, row_value, placed}
 use Rattle.pl_forms.specs.Steps.{plus}
 use Rattle.pl_forms.specs.Goals.{Goal, Truth, Plain, Both, Either, When, Says, GoalWithin}
-use Rattle.pl_forms.specs.Assuming.{one_form, less_one, assumed, Assumes, KeepsWithin}
+use Rattle.pl_forms.specs.Assuming.{one_form, less_one, assumed}
 use Rattle.pl_forms.proofs.RowValues.{more_is, form_law, zeros_value, one_times}
 use Rattle.pl_forms.proofs.Reducing.{counted_meets}
 use Rattle.pl_forms.proofs.PlaceLaws.{plus_within}
@@ -35,7 +34,7 @@ use Rattle.pl_linear.specs.Ends.{minus}
 use Rattle.pl_linear.specs.Duty.{opposite_form}
 use Rattle.pl_linear.specs.Certificates.{is_counted, add_eqs, all_zero, is_certificate}
 use Rattle.pl_linear.specs.Decisions.{with_zero}
-use Rattle.pl_linear.specs.Witnesses.{is_strict, all_strict, row_with, is_none, is_other, is_some_constant, row_beside, shows_below, shows_zero, is_known, known_at, shows_apart, behind, below_at, then_at, or_at, both_at, equal_at, absurd_by, apart_by, apart_at, shape_at, solved_at, plain_at, form_at, truth_at, then_witness, where_known, witness, Confirms}
+use Rattle.pl_linear.specs.Witnesses.{is_strict, all_strict, row_with, is_none, is_other, is_some_constant, row_beside, shows_below, shows_zero, is_known, known_at, shows_apart, behind, below_at, then_at, or_at, both_at, equal_at, absurd_by, apart_by, apart_at, shape_at, solved_at, plain_at, form_at, then_witness, where_known, witness, Confirms}
 use Rattle.pl_linear.proofs.Splitting.{neg_mul}
 use Rattle.pl_linear.proofs.CertificateLaws.{certificate_law, got, yes_is, eqs_law, zero_value}
 

@@ -20,6 +20,7 @@ use Rattle.pl_linear.specs.Certificates.{item_row, start_row}
 use Rattle.pl_linear.specs.Duty.{zero_form, opposite_form}
 use Rattle.pl_diffs.specs.Differences.{IsNegativeCycle}
 use Rattle.pl_linear.specs.Nodes.{edges_of}
+use Rattle.pl_linear.specs.Witnesses.{is_strict}
 use Rattle.pl_linear.specs.FormRow.{row_of}
 
 abbrev pub minus_term : EqTerm → EqTerm
@@ -63,6 +64,7 @@ pub record IsCycleOf (bs : List Bound) (items : List CertItem) : Type 0 where
 -- the item gives the inequality: the row of the item is that of the form
 pub record IsGiven (eqs : List Solution) (facts : List Fact) (goal : Form) (b : Bound) : Type 0 where
   pub once : b.item.times ≡ pos 1
+  pub strict : is_strict eqs b.item.eqs ≡ true
   pub form : IsForm b.form
   pub within : (n : ℕ) → AllSolvedWithin n eqs → AllWithin n facts → Within n goal → Within n b.form
   pub row : (n : ℕ) → AllSolvedWithin (n + 1) eqs → AllWithin (n + 1) facts → Within (n + 1) goal → item_row eqs facts goal b.item (start_row b.item.fact (n + 1)) ≡ Some (row_of n b.form)

@@ -1,5 +1,5 @@
 -- What becomes of a duty: it is done, or this is the point of its first part that isn't, or a form on the way is too large.
-use Rattle.std.specs.Prelude.{◌≡◌, ◌⊎◌, ◌+◌, ◌-◌, ◌&&◌, ℕ, ℤ, pos, nat_eq, nat_lt, if◌then◌else◌, Bool, true, false, not, List, [], ◌∷◌, ◌++◌, map, length, Option, Some, None, Result, Ok, Err, ⊤}
+use Rattle.std.specs.Prelude.{◌≡◌, ◌⊎◌, ◌+◌, ◌&&◌, ℕ, pos, nat_eq, nat_lt, if◌then◌else◌, Bool, true, false, not, List, [], ◌∷◌, ◌++◌, map, length, Option, Some, None, Result, Ok, Err, ⊤}
 use Rattle.std.specs.Ordering.{int_eq}
 use Rattle.pl_forms.specs.declared.form.Part.{Part}
 use Rattle.pl_forms.specs.declared.form.Form.{Form}

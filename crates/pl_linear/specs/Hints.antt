@@ -1,5 +1,5 @@
 -- Hints: multiples of named facts, and of the negated goal, that add to a positive constant.
-use Rattle.std.specs.Prelude.{◌≡◌, ℕ, ◌+◌, ◌*◌, ◌^◌, ℤ, pos, negsuc, ◌&&◌, ◌||◌, nat_eq, nat_lt, if◌then◌else◌, Bool, true, false, List, [], ◌∷◌, ◌++◌, map, length, replicate, slice_get, Option, Some, None, Result, Ok, Err, ⊤}
+use Rattle.std.specs.Prelude.{◌≡◌, ℕ, ◌+◌, ◌*◌, ◌^◌, ℤ, pos, negsuc, ◌&&◌, nat_eq, nat_lt, if◌then◌else◌, Bool, true, false, List, [], ◌∷◌, ◌++◌, map, length, replicate, slice_get, Option, Some, None, Result, Ok, Err, ⊤}
 use Rattle.std.specs.Str.{bytes_eq}
 use Rattle.std.specs.declared.vec.Vec.{Vec}
 use Rattle.std.specs.declared.alloc.Global.{Global}
@@ -18,7 +18,7 @@ use Rattle.pl_forms.specs.Terms.{terms}
 use Rattle.pl_forms.specs.Tightening.{common}
 use Rattle.pl_forms.specs.Rows.{then_more, form_times, add_rows}
 use Rattle.pl_forms.specs.Solving.{solved}
-use Rattle.pl_forms.specs.Goals.{Goal, Truth, Plain, Both, Either, When}
+use Rattle.pl_forms.specs.Goals.{Goal, Plain}
 use Rattle.pl_linear.specs.declared.hint.HintTerm.{HintTerm}
 use Rattle.pl_linear.specs.declared.hint.Written.{Written}
 use Rattle.pl_linear.specs.declared.hint.Hinted.{Hinted}

@@ -9,3 +9,4 @@ pub mod Decisions
 pub mod Differing
 pub mod Witnesses
 pub mod Hints
+pub mod HintRule

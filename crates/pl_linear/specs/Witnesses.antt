@@ -1,5 +1,5 @@
 -- Witnesses of duties: groups that show of each part of a duty, in its order, that it is done.
-use Rattle.std.specs.Prelude.{◌≡◌, ℕ, ◌+◌, ℤ, pos, negsuc, nat_eq, if◌then◌else◌, Bool, true, false, List, [], ◌∷◌, replicate, slice_get, Option, Some, None, Result, Ok, Err}
+use Rattle.std.specs.Prelude.{◌≡◌, ℕ, ◌+◌, ℤ, pos, negsuc, nat_eq, if◌then◌else◌, Bool, true, false, List, [], ◌∷◌, replicate, length, slice_get, Option, Some, None, Result, Ok, Err, ⊤}
 use Rattle.std.specs.Ordering.{int_eq}
 use Rattle.pl_forms.specs.declared.form.Form.{Form}
 use Rattle.pl_forms.specs.declared.form.TermError.{TermError}
@@ -14,8 +14,11 @@ use Rattle.pl_forms.specs.declared.goal.Group.TheVariants as g
 use Rattle.pl_forms.specs.declared.equation.Solution.{Solution}
 use Rattle.pl_forms.specs.Rows.{then_more, form_times}
 use Rattle.pl_forms.specs.Solving.{solved}
-use Rattle.pl_forms.specs.Goals.{Goal, Truth, Plain, Both, Either, When}
+use Rattle.pl_forms.specs.Goals.{Goal, Truth, Plain, Both, Either, When, GoalWithin}
+use Rattle.pl_forms.specs.Places.{Within, AllWithin, AllSolvedWithin}
 use Rattle.pl_forms.specs.Assuming.{one_form, less_one, assumed}
+use Rattle.pl_linear.specs.declared.found.Decided.{Decided}
+use Rattle.pl_linear.specs.declared.found.Decided.TheVariants as d
 use Rattle.pl_linear.specs.Certificates.{is_counted, add_eqs, all_zero, is_certificate}
 use Rattle.pl_linear.specs.Duty.{opposite_form}
 use Rattle.pl_linear.specs.Decisions.{with_zero}
@@ -166,3 +169,26 @@ abbrev pub Confirms : Result (Option ℕ) TermError → Result (Option ℕ) Term
 Confirms (Ok o) wanted = wanted ≡ Ok o
 Confirms (Err (TooLarge n)) wanted = wanted ≡ Err (TooLarge n)
 Confirms (Err Memory) wanted = Unit {0}
+
+-- the groups, and no more, are a witness of a duty, in rows with places for all atoms
+pub record IsWitness (facts : List Fact) (goal : Goal) (groups : List Group) : Type 0 where
+  pub is : (atoms : ℕ) → AllWithin (atoms + 1) facts → GoalWithin (atoms + 1) goal → witness facts atoms goal groups 0 ≡ Ok (Some (length groups))
+
+-- a fact about the groups of a duty that is done
+abbrev pub IfDone : Decided → (List Group → Type 0) → Type 0
+IfDone (d.Done groups) P = P groups
+IfDone (d.Undone point) P = ⊤
+
+-- one group shows `t <= 0`
+pub record IsOfBelow (eqs : List Solution) (facts : List Fact) (t : Form) (groups : List Group) : Type 0 where
+  pub group : Group
+  pub alone : groups ≡ group ∷ []
+  pub shows : (atoms : ℕ) → AllSolvedWithin (atoms + 1) eqs → AllWithin (atoms + 1) facts → Within (atoms + 1) t → shows_below eqs facts atoms t group ≡ true
+
+-- the groups show `t == 0`
+pub record IsOfEqual (eqs : List Solution) (facts : List Fact) (t : Form) (groups : List Group) : Type 0 where
+  pub is : (atoms : ℕ) → AllSolvedWithin (atoms + 1) eqs → AllWithin (atoms + 1) facts → Within (atoms + 1) t → equal_at eqs facts atoms t groups (slice_get groups 0) 0 ≡ Some (length groups)
+
+-- .. `t != 0`
+pub record IsOfApart (eqs : List Solution) (facts : List Fact) (t : Form) (groups : List Group) : Type 0 where
+  pub is : (atoms : ℕ) → AllSolvedWithin (atoms + 1) eqs → AllWithin (atoms + 1) facts → Within (atoms + 1) t → apart_at eqs facts atoms t (slice_get groups 0) 0 ≡ Ok (Some (length groups))

@@ -9,6 +9,7 @@ ghost use Rattle.pl_linear.specs.Duty.{asked};
 ghost use Rattle.pl_linear.specs.Bounds.{forms_of};
 ghost use Rattle.pl_linear.specs.Nodes.{node_form, value_at, number_of};
 ghost use Rattle.pl_linear.specs.Decisions.{Becomes, Decides, in_order, own_nodes, last_form, shown};
+ghost use Rattle.pl_linear.specs.Witnesses.{IfDone, IsOfBelow};
 
 use crate::bounds::{Bound, bounds};
 use crate::ends::ends_of;
@@ -32,6 +33,7 @@ pub fn decide_below(
     requires goal { IsForm goal.now }
     requires few { length facts.now.list ≤ 1024 }
     ensures exact { Decides result (Becomes (asked eqs.now.solved facts.now.list goal.now)) }
+    ensures witness { IfOk result (λ d. IfDone d (IsOfBelow eqs.now.solved facts.now.list goal.now)) }
 {
     let list = bounds(alloc, eqs.solved.as_slice(), facts.list.as_slice(), goal)?;
     match settle(alloc, &list)? {

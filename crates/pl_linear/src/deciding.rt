@@ -1,4 +1,4 @@
-ghost use Rattle.std.specs.Prelude.{◌≡◌, ℕ, ◌≤◌, ◌++◌, ◌∷◌, [], true, length, Ok, Some, None, IfOk, IfErr};
+ghost use Rattle.std.specs.Prelude.{◌≡◌, ℕ, ◌≤◌, List, ◌++◌, ◌∷◌, [], true, length, Ok, Some, None, IfOk, IfErr};
 ghost use Rattle.std.specs.List.{All};
 ghost use Rattle.pl_forms.specs.Forms.{IsForm};
 ghost use Rattle.pl_forms.specs.Facts.{IsFact};
@@ -6,10 +6,12 @@ ghost use Rattle.pl_forms.specs.Equations.{AreSolutions, AreNamed, reduced};
 ghost use Rattle.pl_forms.specs.Places.{Within, AllWithin};
 ghost use Rattle.pl_forms.specs.Solving.{solved};
 ghost use Rattle.pl_forms.specs.declared.form.TermError.TheVariants.{Memory as WantsMemory};
-ghost use Rattle.pl_forms.specs.Goals.{goal_of, IsGoal, Truth};
+ghost use Rattle.pl_forms.specs.declared.equation.Solution.{Solution};
+ghost use Rattle.pl_forms.specs.Goals.{goal_of, IsGoal, Truth, Plain};
 ghost use Rattle.pl_forms.specs.Assuming.{assumed, one_form};
 ghost use Rattle.pl_linear.specs.Duty.{asked, asked_by, opposite_form};
 ghost use Rattle.pl_linear.specs.Decisions.{is_nought, is_apart, differing, with_zero, Then, Becomes, IsEqual, IsApart, IsPlain, OfTruth, Leads, Decides, joined, done};
+ghost use Rattle.pl_linear.specs.Witnesses.{IsWitness, IfDone, IsOfBelow, IsOfEqual, IsOfApart};
 
 use crate::below::{alone, decide_below};
 use crate::differing::{Match, differing};
@@ -32,6 +34,8 @@ pub fn decide(alloc: Global, facts: &Facts, goal: &Goal) -> Result<Decided, Term
     requires goal { IsGoal (goal_of goal.now) }
     requires few { length facts.now.list ≤ 1024 }
     ensures exact { Decides result (Leads facts.now.list (goal_of goal.now)) }
+    // The groups are a witness that `confirms` accepts.
+    ensures witness { IfOk result (λ d. IfDone d (IsWitness facts.now.list (goal_of goal.now))) }
 {
     match goal {
         Goal::Truth(form, truth) => decide_truth(alloc, facts, form, *truth),
@@ -84,6 +88,7 @@ fn decide_truth(
     requires form { IsForm form.now }
     requires few { length facts.now.list ≤ 1024 }
     ensures exact { Decides result (OfTruth facts.now.list form.now truth) }
+    ensures witness { IfOk result (λ d. IfDone d (IsWitness facts.now.list (Truth form.now truth))) }
 {
     if !truth {
         return decide_plain(alloc, facts, Shape::Zero, form);
@@ -104,6 +109,7 @@ fn decide_plain(
     requires form { IsForm form.now }
     requires few { length facts.now.list ≤ 1024 }
     ensures exact { Decides result (IsPlain facts.now.list shape form.now) }
+    ensures witness { IfOk result (λ d. IfDone d (IsWitness facts.now.list (Plain shape form.now))) }
 {
     let eqs = Eqs::of(alloc, facts)?;
     match shape {
@@ -121,6 +127,7 @@ fn decide_equal(alloc: Global, eqs: &Eqs, facts: &Facts, form: &Form) -> Result<
     requires form { IsForm form.now }
     requires few { length facts.now.list ≤ 1024 }
     ensures exact { Decides result (IsEqual eqs.now.solved facts.now.list form.now) }
+    ensures witness { IfOk result (λ d. IfDone d (IsOfEqual eqs.now.solved facts.now.list form.now)) }
 {
     let reduced = reduce_with(alloc, eqs.solved.as_slice(), form)?;
     if is_nought(&reduced.form) {
@@ -148,6 +155,7 @@ fn decide_both_sides(
     requires form { IsForm form.now }
     requires few { length facts.now.list ≤ 1024 }
     ensures exact { Decides result (Then (Becomes (asked eqs.now.solved facts.now.list form.now)) (Becomes (asked eqs.now.solved facts.now.list (opposite_form form.now)))) }
+    ensures witness { IfOk result (λ d. IfDone d (IsOfEqual eqs.now.solved facts.now.list form.now)) }
 {
     match decide_below(alloc, eqs, facts, form) {
         Err(error) => Err(error),
@@ -169,6 +177,7 @@ fn decide_apart(alloc: Global, eqs: &Eqs, facts: &Facts, form: &Form) -> Result<
     requires form { IsForm form.now }
     requires few { length facts.now.list ≤ 1024 }
     ensures exact { Decides result (IsApart eqs.now.solved facts.now.list form.now) }
+    ensures witness { IfOk result (λ d. IfDone d (IsOfApart eqs.now.solved facts.now.list form.now)) }
 {
     let reduced = reduce_with(alloc, eqs.solved.as_slice(), form)?;
     if is_apart(&reduced.form) {
@@ -202,11 +211,13 @@ fn by_disequality(
     found: Match,
 ) -> Result<Decided, TermError>
     requires eqs { AreSolutions eqs.now.solved }
+    requires named { AreNamed eqs.now.solved }
     requires facts { All IsFact facts.now.list }
     requires form { IsForm form.now }
     requires reduct { reduced eqs.now.solved form.now ≡ Ok reduct.now }
     requires found { differing eqs.now.solved reduct.now 0 facts.now.list ≡ Ok (Some found) }
     ensures exact { Decides result (λ o. o ≡ done) }
+    ensures witness { IfOk result (λ d. IfDone d (IsOfApart eqs.now.solved facts.now.list form.now)) }
 {
     let list = facts.list.as_slice();
     let place = found.place as usize;
@@ -228,6 +239,7 @@ fn decide_absurd(alloc: Global, facts: &Facts, form: &Form) -> Result<Decided, T
     requires form { IsForm form.now }
     requires few { length facts.now.list ≤ 1024 }
     ensures exact { Decides result (Becomes (asked_by (solved (with_zero facts.now.list form.now)) (with_zero facts.now.list form.now) one_form)) }
+    ensures witness { IfOk result (λ d. IfDone d (λ gs. (eqs : List Solution) → IsOfApart eqs facts.now.list form.now gs)) }
 {
     let longer = with_zero(alloc, facts, form)?;
     let eqs = Eqs::of(alloc, &longer)?;

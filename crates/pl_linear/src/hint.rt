@@ -10,6 +10,7 @@ ghost use Rattle.pl_forms.specs.Goals.{goal_of, IsGoal, GoalWithin, Says};
 ghost use Rattle.pl_forms.specs.Rows.{Added};
 ghost use Rattle.pl_linear.specs.Certificates.{closing};
 ghost use Rattle.pl_linear.specs.Hints.{past, has_label, newest, is_known, are_known, writes_goal, with_goal, fact_term, goal_term, at_least_one, with_shape, with_place, with_term, all_written, own_row, add_own, add_all_own, items_of, HintDone, told, judged, by_labels, by_negated, by_solved, hinted, Hints, Listed, Writes, IfShown, IsShownBy};
+ghost use Rattle.pl_linear.specs.HintRule.{by_rule};
 
 use crate::certificate::{add_all, checks, closes, fill, start};
 use crate::finding::copy_item;
@@ -69,6 +70,8 @@ pub fn by_hint(
     requires fact_atoms { AllWithin (atoms + 1) facts.now.list }
     requires goal_atoms { GoalWithin (atoms + 1) (goal_of goal.now) }
     ensures exact { Hints result (hinted facts.now.list atoms (goal_of goal.now) hint.now) }
+    // A hint of at most 2^24 terms is done exactly where its own sum is a positive constant.
+    ensures rule { length hint.now ≤ 2 ^ 24 → Hints result (by_rule facts.now.list atoms (goal_of goal.now) hint.now) }
     ensures certificate { IfOk result (λ h. IfShown h (IsShownBy facts.now.list atoms (goal_of goal.now))) }
     // What a hint shows is so at all whole numbers that meet the facts.
     ensures law { IfOk result (λ h. IfShown h (λ _. (v : ℕ → ℤ) → MeetsAll v facts.now.list → Says v (goal_of goal.now) true)) }

@@ -1,4 +1,4 @@
-use Rattle.std.proofs.Common.{◌≤◌, ◌^◌, rules}
+use Rattle.std.proofs.Common.{◌≤◌, ◌^◌}
 use Rattle.pl_forms.specs.Tightening.{common}
 use Rattle.pl_linear.proofs.HintLaws.{divisor_small}
 use Rattle.pl_linear.proofs.hint.all_written.Goals as goal
